@@ -1,0 +1,5 @@
+pub mod Coprimes
+pub mod Powers
+pub mod Cancels
+pub mod Pigeons
+pub mod Answering

@@ -1,0 +1,6 @@
+use mathlib.Core.Path.{refl}
+use Rattle.plans.proofs.Answering.{accepted}
+use Rattle.plans.proofs.accepted.Plan.bits.Needs as need
+
+pub returns : need.returns
+returns c = let a = accepted (c .args .self .values) (c .args .self .accepted) in record { value = refl; bound = (a .1 .low, a .1 .high) }

@@ -1,0 +1,4 @@
+pub mod Refusals
+pub mod Divisors
+pub mod Plans
+pub mod Permutations
