@@ -1,6 +1,6 @@
 -- A plan: the sizes that follow from its numbers, what is asked of them, and the interleaver.
 use mathlib.Core.Path.{_≡_}
-use mathlib.Core.Bool.{Bool, true, false, cond, _&&_}
+use mathlib.Core.Bool.{Bool, _&&_}
 use Prim.Native.Nat.{ℕ, _+_, _*_, _/_, _%_, _^_, _<_, _≤_, _∣_}
 use lib.Dec.{eqb, leb, ltb}
 use Rattle.std.specs.declared.option.Option.{Option}
@@ -9,6 +9,7 @@ use Rattle.plans.specs.declared.values.PlanValues.{PlanValues}
 use Rattle.plans.specs.declared.refusals.Refusal.{Refusal}
 use Rattle.plans.specs.declared.refusals.Refusal.the-variants.{PayloadBytes, SymbolBits, Interleaver, Room, Lengths, FileLength, RecordCheck, RecordHead, LengthDue}
 use Rattle.plans.specs.Divisors.{coprime, Coprime}
+use Rattle.plans.specs.Refusals.{unless, first-of}
 
 -- stages of the outer code, one for each payload bit, check bit and closing zero
 abbrev pub stages : PlanValues → ℕ
@@ -60,7 +61,7 @@ permuting v = leb 1 (v .a) && ltb (v .a) (coded v) && ltb (v .b) (coded v) && co
 
 -- the first question answered no, if any is
 unfoldable pub plan-refusal : PlanValues → Option Refusal
-plan-refusal v = cond (sized v) (cond (grouped v) (cond (permuting v) None (Some Interleaver)) (Some SymbolBits)) (Some PayloadBytes)
+plan-refusal v = first-of (unless (sized v) PayloadBytes) (first-of (unless (grouped v) SymbolBits) (unless (permuting v) Interleaver))
 
 -- what an answer to the questions says of the plan
 abbrev pub Answered : PlanValues → Option Refusal → Type 0

@@ -1,8 +1,8 @@
 -- Polynomials over the two-element field, as lists of coefficients, the highest power first.
 use mathlib.Core.Path.{_≡_}
-use mathlib.Core.List.{List, [], _∷_, _++_, map}
+use mathlib.Core.List.{List, [], _∷_, _++_}
 use mathlib.Core.Bool.{Bool, true, false, cond}
-use Prim.Native.Nat.{ℕ, zero, suc, _+_, _-_, _*_, _^_}
+use Prim.Native.Nat.{ℕ, zero, suc, _+_, _-_, _*_, _^_, _≤_}
 use lib.ListN.{length}
 
 -- the sum of two elements of the field, which is also their difference
@@ -58,6 +58,10 @@ remainder p = divide (length p - 22) p
 pub record One-remainder (p : List Bool) : Type 0 where
   pub found : Remainder p (remainder p)
   pub only : (r : List Bool) → Remainder p r → r ≡ remainder p
+
+-- the theorem of division by the generator
+abbrev pub Division : Type 0
+Division = (p : List Bool) → 22 ≤ length p → One-remainder p
 
 abbrev pub bit : Bool → ℕ
 bit true = 1

@@ -1,0 +1,3 @@
+pub mod Inverting
+pub mod Stages
+pub mod Symbols
