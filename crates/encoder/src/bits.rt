@@ -44,7 +44,7 @@ fn earlier_bit(payload: &[u8], check: u32, k: usize, back: usize) -> bool
 }
 
 // Coded bit i.
-pub fn coded_bit(payload: &[u8], check: u32, i: usize) -> bool
+pub(crate) fn coded_bit(payload: &[u8], check: u32, i: usize) -> bool
     requires bound { ⌜ length (now payload) ≤ 1021 ⌝ }
     requires checked { ⌜ check ≡ check-of (now payload) ⌝ }
     ensures value { λ r. ⌜ r ≡ coded-bit (data-bits (now (payload .entry))) i ⌝ }

@@ -4,10 +4,14 @@ use mathlib.Core.Logic.{inl, inr, ⊎-elim}
 use mathlib.Core.Bool.{Bool, true, false, not, _&&_, _||_}
 use Prim.Native.Nat.{ℕ, suc, zero, _+_, _%_, _<_, _≤_, _∣_}
 use native.Mathlib.Omega.{arith}
-use native.Mathlib.Nat.{mod-zero, le-of-dvd, dvd-of-mod-eq-zero, mod-eq-zero-of-dvd, eq-one-of-dvd-one}
+use native.Mathlib.Nat.{eq-zero-of-zero-dvd, le-of-dvd, dvd-of-mod-eq-zero, mod-eq-zero-of-dvd, eq-one-of-dvd-one}
 use lib.Dec.{eqb}
 use Rattle.std.proofs.shelf.Tests.{eqb-true, eq-eqb, ne-eqb, cases-eq, and-parts, and-from, or-cases, or-left, or-right, not-true, not-from-false, and-left, and-right, both-ways}
 use Rattle.plans.specs.Divisors.{Coprime, Greatest-common, common, none-common, coprime}
+
+unlike : (t : Bool) → (t ≡ true → ⊥) → t ≡ false
+unlike true n = absurd (n refl)
+unlike false n = refl
 
 common-divides : (a b k : ℕ) → common a b k ≡ true → (k ∣ a) × (k ∣ b)
 common-divides a b k h =
@@ -39,17 +43,10 @@ means-none a b (suc k) h =
     (λ n. or-right (eqb k 0) (not (common a b (suc k))) (not-from-false _ (unlike (common a b (suc k)) (λ t. let d = common-divides a b (suc k) t in let o = h (suc k) (d .0) (d .1) in n (omega arith)))))
     (cases-eq k 0))
     (means-none a b k h)
-  where
-    unlike : (t : Bool) → (t ≡ true → ⊥) → t ≡ false
-    unlike true n = absurd (n refl)
-    unlike false n = refl
 
 pub coprime-means : (a b : ℕ) → 0 < b → coprime a b ≡ true → Coprime a b
 unfolding coprime
-coprime-means a b some h zero p q = absurd (let z : b ≡ 0 = zero-only b q in omega arith)
-  where
-    zero-only : (x : ℕ) → 0 ∣ x → x ≡ 0
-    zero-only x e = sym (mod-zero x) ∙ mod-eq-zero-of-dvd 0 e
+coprime-means a b some h zero p q = absurd (let z : b ≡ 0 = eq-zero-of-zero-dvd q in omega arith)
 coprime-means a b some h (suc zero) p q = refl
 coprime-means a b some h (suc (suc d)) p q = absurd (none-means a b b h (suc (suc d)) (omega arith) (le-of-dvd some q) p q)
 
@@ -64,7 +61,3 @@ divisor-tells a b g some h =
     (λ one. eq-eqb g 1 one ∙ sym (means-coprime a b (λ d p q. eq-one-of-dvd-one (subst (λ t. d ∣ t) one (h .most d p q)))))
     (λ more. ne-eqb g 1 more ∙ sym (unlike (coprime a b) (λ t. more (coprime-means a b some t g (h .left) (h .right)))))
     (cases-eq g 1)
-  where
-    unlike : (t : Bool) → (t ≡ true → ⊥) → t ≡ false
-    unlike true n = absurd (n refl)
-    unlike false n = refl

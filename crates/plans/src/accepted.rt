@@ -16,7 +16,7 @@ use crate::Refusal;
 /// A plan that every question was answered yes for.
 #[derive(Clone, Copy)]
 pub struct Plan {
-    values: PlanValues,
+    pub values: PlanValues,
     ghost accepted: { isSome (plan-refusal values) ≡ false },
 }
 
@@ -87,13 +87,6 @@ impl Plan {
             return Err(Refusal::Interleaver);
         }
         Ok(Plan { values })
-    }
-
-    /// The numbers of the plan.
-    pub fn values(self) -> PlanValues
-        ensures value { λ r. ⌜ r ≡ self .values ⌝ }
-    {
-        self.values
     }
 
     /// Payload bytes.

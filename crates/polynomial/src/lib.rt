@@ -32,17 +32,11 @@ fn fed(r: u32, byte: u8) -> u32
 pub fn check(bytes: &[u8]) -> u32
     ensures value { λ r. ⌜ r ≡ check-of (now (bytes .entry)) ⌝ }
     ensures meaning { λ r. ⌜ Checks (now (bytes .entry)) r ⌝ }
+    ensures division { λ _. ⌜ Division ⌝ }
 {
     let mut r = 0;
     for byte in bytes {
         r = fed(r, *byte);
     }
     r
-}
-
-/// The theorem of division: a polynomial with at least 22 coefficients has one remainder by the generator, and one only.
-pub fn division_holds() -> u8
-    ensures { λ _. ⌜ Division ⌝ }
-{
-    0
 }

@@ -8,6 +8,7 @@ use Rattle.std.proofs.shelf.Lists.{take-all, take-more}
 use Rattle.polynomial.specs.Polynomials.{remainder}
 use Rattle.polynomial.specs.Bytes.{check-of, Checks}
 use Rattle.polynomial.proofs.Checks.{check-small, checks}
+use Rattle.polynomial.proofs.Division.{one-remainder}
 use Rattle.polynomial.proofs.check.Needs as need
 
 pub loop-byte-holds : need.loop-byte-holds
@@ -29,4 +30,4 @@ pub returns : need.returns
 returns c =
     let t : take (c .loop-byte .byte-index) (c .args .bytes .now) ≡ c .args .bytes .now = take-all _ _ (c .loop-byte-test .left) in
     let v = c .loop-byte .inv ∙ ap check-of t in
-    record { value = v; meaning = subst (Checks (c .args .bytes .now)) (sym v) (checks (c .args .bytes .now)) }
+    record { value = v; meaning = subst (Checks (c .args .bytes .now)) (sym v) (checks (c .args .bytes .now)); division = one-remainder }
