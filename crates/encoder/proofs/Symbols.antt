@@ -8,6 +8,7 @@ use native.Mathlib.Nat.{mul-le-mul, le-refl, suc-mul}
 use lib.ListN.{length, getD, take, drop, set}
 use Rattle.std.specs.Iters.{counting}
 use Rattle.std.proofs.shelf.Counted.{map-counting-more, length-map-counting}
+use Rattle.std.proofs.shelf.Lists.{take-more-set}
 use Rattle.polynomial.specs.Polynomials.{bit, value}
 use Rattle.polynomial.proofs.Binary.{value-append, value-lt}
 
@@ -31,3 +32,7 @@ read-lt f from n = subst (λ k. read f from n < 2 ^ k) (length-map-counting f fr
 -- place k of n groups of m
 pub inside : (k n m i : ℕ) → k < n → i < m → k * m + i < n * m
 inside k n m i l h = let e : suc k * m ≤ n * m = mul-le-mul l (le-refl m) in let z = suc-mul k m in omega arith
+
+-- a buffer whose front is made place by place
+pub filled-more : (f : ℕ → ℕ) (out : List ℕ) (k x : ℕ) → k < length out → take k out ≡ map f (counting 0 k) → x ≡ f k → take (k + 1) (set out k x) ≡ map f (counting 0 (k + 1))
+filled-more f out k x l h e = take-more-set out k x l ∙ ap (λ xs. xs ++ x ∷ []) h ∙ ap (λ y. map f (counting 0 k) ++ y ∷ []) e ∙ sym (map-counting-more f 0 k k (omega arith))

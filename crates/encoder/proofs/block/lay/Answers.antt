@@ -6,10 +6,10 @@ use native.Mathlib.Omega.{arith}
 use native.Mathlib.Nat.{zero-mul}
 use lib.ListN.{length, take, drop, set}
 use Rattle.std.specs.Iters.{counting}
-use Rattle.std.proofs.shelf.Counted.{map-counting-more}
-use Rattle.std.proofs.shelf.Lists.{take-more-set, drop-set-lt}
+use Rattle.std.proofs.shelf.Lists.{drop-set-lt}
 use Rattle.plans.specs.Plans.{symbols}
 use Rattle.encoder.specs.Encoding.{data-bits, interleaved-bit, held-before, slot, encoded}
+use Rattle.encoder.proofs.Symbols.{filled-more}
 use Rattle.encoder.proofs.block.lay.Needs as need
 
 pub slot-of-value-requires : need.slot-of-value-requires
@@ -19,14 +19,11 @@ pub loop-k-holds : need.loop-k-holds
 loop-k-holds c =
     (sym (ap (held-before (interleaved-bit (c .args .plan .values) (data-bits (c .args .payload .now)))) (zero-mul (c .args .plan .values .bits))), refl, refl)
 
-one-more : (f : ℕ → ℕ) (out : List ℕ) (k x : ℕ) → k < length out → take k out ≡ map f (counting 0 k) → x ≡ f k → take (k + 1) (set out k x) ≡ map f (counting 0 (k + 1))
-one-more f out k x l h e = take-more-set out k x l ∙ ap (λ xs. xs ++ x ∷ []) h ∙ ap (λ y. map f (counting 0 k) ++ y ∷ []) e ∙ sym (map-counting-more f 0 k k (omega arith))
-
 pub loop-k-again : need.loop-k-again
 loop-k-again c =
     let e : c .loop-k .k * c .args .plan .values .bits + c .args .plan .values .bits ≡ (c .loop-k .k + 1) * c .args .plan .values .bits = omega arith in
     (c .slot-of-value .ensures .held ∙ ap (held-before (interleaved-bit (c .args .plan .values) (data-bits (c .args .payload .now)))) e,
-     one-more (slot (c .args .plan .values) (data-bits (c .args .payload .now))) (c .loop-k .out) (c .loop-k .k) (c .slot-of-value .result .0) (omega arith) (c .loop-k .inv .1) (c .slot-of-value .ensures .value),
+     filled-more (slot (c .args .plan .values) (data-bits (c .args .payload .now))) (c .loop-k .out) (c .loop-k .k) (c .slot-of-value .result .0) (omega arith) (c .loop-k .inv .1) (c .slot-of-value .ensures .value),
      drop-set-lt (symbols (c .args .plan .values)) (c .loop-k .out) (c .loop-k .k) (c .slot-of-value .result .0) (omega arith) ∙ c .loop-k .inv .2)
 
 pub returns : need.returns
