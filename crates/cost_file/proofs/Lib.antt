@@ -1,0 +1,11 @@
+pub mod Questions
+pub mod Packing
+pub mod Pieces
+pub mod Sizes
+pub mod Written
+pub mod Canonical
+pub mod Laying
+pub mod Wrote
+pub mod Judged
+pub mod Opened
+pub mod Handed

@@ -112,5 +112,6 @@ lengths-fit c = eqb (length (c .rows)) (symbols (c .plan) * slots (c .plan)) && 
 -- the first question of the writer answered no, where its output has `room` bytes
 unfoldable pub write-refusal : Kept → ℕ → Option Refusal
 write-refusal c room = elim (plan-refusal (c .plan)) [
-    Some refusal ↦ Some refusal
-  | None ↦ cond (lengths-fit c) (cond (leb (length (written c)) room) None (Some Room)) (Some Lengths) ]
+  | Some refusal ↦ Some refusal
+  | None ↦ cond (lengths-fit c) (cond (leb (length (written c)) room) None (Some Room)) (Some Lengths)
+]

@@ -1,8 +1,7 @@
 -- One record of a cost file: head, body and check.
-use mathlib.Core.Path.{_≡_}
 use mathlib.Core.List.{List, [], _∷_, _++_}
 use mathlib.Core.Bool.{Bool, true, false}
-use Prim.Native.Nat.{ℕ, zero, suc, _+_, _-_, _*_, _/_, _%_, _^_}
+use Prim.Native.Nat.{ℕ, zero, suc, _-_, _/_, _%_, _^_}
 use lib.ListN.{length, take, drop}
 use Rattle.std.specs.shelf.Text.{sameBytes}
 use Rattle.std.specs.declared.option.Option.{Option}
@@ -13,12 +12,20 @@ use Rattle.polynomial.specs.Bytes.{check-of}
 use Rattle.cost_file.specs.declared.faults.Layer.{Layer}
 use Rattle.cost_file.specs.declared.faults.Layer.the-variants.{File, Plan, Contents}
 use Rattle.cost_file.specs.declared.faults.Fault.{Fault}
+use Rattle.cost_file.specs.declared.records.Kind.{Kind}
+use Rattle.cost_file.specs.declared.records.Kind.the-variants as kinds
 
 -- the number of each layer
 abbrev pub layer-of : Layer → ℕ
 layer-of File = 1
 layer-of Plan = 2
 layer-of Contents = 3
+
+-- the number of each kind of record
+abbrev pub kind-of : Kind → ℕ
+kind-of kinds.Plan = 1
+kind-of kinds.Row = 2
+kind-of kinds.Payload = 3
 
 -- a number in n bytes, the most significant first
 abbrev pub bytes-of : ℕ → ℕ → List ℕ

@@ -1,7 +1,7 @@
 //! What is wrong with a file.
 
 ghost use mathlib.Core.Path.{_≡_};
-ghost use Rattle.cost_file.specs.Records.{layer-of};
+ghost use Rattle.cost_file.specs.Records.{layer-of, fault};
 use plans::Refusal;
 
 /// Where a fault lies.
@@ -30,4 +30,16 @@ pub struct Fault {
     pub refusal: Refusal,
     pub record: u32,
     pub layer: Layer,
+}
+
+impl Fault {
+    pub(crate) fn new(refusal: Refusal, record: u32, layer: Layer) -> Fault
+        ensures value { λ r. ⌜ r ≡ fault refusal «record» layer ⌝ }
+    {
+        Fault {
+            refusal,
+            record,
+            layer,
+        }
+    }
 }
