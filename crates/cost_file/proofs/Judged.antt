@@ -19,7 +19,8 @@ use Rattle.polynomial.specs.Bytes.{check-of}
 use Rattle.cost_file.specs.declared.faults.Layer.the-variants.{File}
 use Rattle.cost_file.specs.declared.faults.Fault.{Fault}
 use Rattle.cost_file.specs.Files.{row-at, rows-end, rows-fault, payload-fault}
-use Rattle.cost_file.specs.Records.{bytes-of, head-of, fault, unless, first-of, record-fault}
+use Rattle.plans.specs.Refusals.{unless, first-of}
+use Rattle.cost_file.specs.Records.{bytes-of, head-of, fault, record-fault}
 use Rattle.cost_file.proofs.Questions.{same-true}
 
 differs : (xs ys : List ℕ) (b : Bool) → sameBytes xs ys ≡ b → (length xs ≡ length ys → ⊥) → b ≡ false

@@ -12,7 +12,7 @@ use Rattle.std.proofs.shelf.Tests.{and-parts, leb-true, le-leb}
 use Rattle.plans.specs.declared.values.PlanValues.{PlanValues}
 use Rattle.plans.specs.Plans.{symbols}
 use Rattle.cost_file.specs.declared.faults.Fault.{Fault}
-use Rattle.cost_file.specs.Records.{first-of}
+use Rattle.plans.specs.Refusals.{first-of}
 use Rattle.cost_file.specs.Files.{rows-end, plan-in, refusal-within, at-layer-two, length-fault, plan-record-fault, due-fault, rows-fault, payload-fault, later-fault, file-fault}
 use Rattle.cost_file.proofs.Questions.{unless-none, first-none, none-first}
 use Rattle.cost_file.proofs.Sizes.{sizes}

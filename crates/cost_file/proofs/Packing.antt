@@ -10,7 +10,8 @@ use Rattle.std.proofs.shelf.Lists.{take-at, drop-at, take-take, drop-take, appe
 use Rattle.plans.specs.declared.refusals.Refusal.the-variants.{RecordCheck}
 use Rattle.polynomial.specs.Bytes.{check-of}
 use Rattle.cost_file.specs.declared.faults.Layer.the-variants.{File}
-use Rattle.cost_file.specs.Records.{bytes-of, head-of, packed, fault, unless, record-fault}
+use Rattle.plans.specs.Refusals.{unless}
+use Rattle.cost_file.specs.Records.{bytes-of, head-of, packed, fault, record-fault}
 use Rattle.cost_file.proofs.Questions.{unless-none, first-none, same-refl, same-true}
 
 pub length-packed : (kind number : ℕ) (body : List ℕ) → length (packed kind number body) ≡ length body + 8

@@ -11,7 +11,7 @@ use Rattle.std.specs.declared.option.Option.the-variants.{Some, None}
 use Rattle.std.specs.shelf.Text.{sameBytes}
 use Rattle.std.proofs.shelf.Tests.{eqb-true, eq-eqb, and-parts}
 use Rattle.cost_file.specs.declared.faults.Fault.{Fault}
-use Rattle.cost_file.specs.Records.{unless, first-of}
+use Rattle.plans.specs.Refusals.{unless, first-of}
 
 pub some-none : {A : Type 0} {x : A} → Some x ≡ None → ⊥
 some-none h = let z : _≡_ {A = ℕ} 0 1 = cc in omega arith

@@ -16,7 +16,8 @@ use Rattle.std.proofs.shelf.Tests.{eqb-true, eq-eqb, ne-eqb, le-leb, and-parts}
 use Rattle.plans.specs.declared.values.PlanValues.{PlanValues}
 use Rattle.plans.specs.Plans.{symbols, slots, plan-refusal}
 use Rattle.cost_file.specs.declared.faults.Fault.{Fault}
-use Rattle.cost_file.specs.Records.{packed, unless, record-fault}
+use Rattle.plans.specs.Refusals.{unless}
+use Rattle.cost_file.specs.Records.{packed, record-fault}
 use Rattle.cost_file.specs.Files.{Kept, plan-body, row, rows-written, payload-written, written, row-at, rows-end, plan-in, refusal-within, at-layer-two, length-fault, plan-record-fault, due-fault, rows-fault, payload-fault, later-fault, file-fault, rows-in, payload-in, kept-in, payload-fits}
 use Rattle.cost_file.specs.Promises.{Proper, Reads-back}
 use Rattle.cost_file.proofs.Questions.{none-first}

@@ -15,7 +15,8 @@ use Rattle.plans.specs.declared.refusals.Refusal.the-variants.{PayloadBytes, Ro
 use Rattle.plans.specs.Plans.{symbols, slots, plan-refusal}
 use Rattle.cost_file.specs.declared.faults.Layer.the-variants.{File, Plan, Contents}
 use Rattle.cost_file.specs.declared.faults.Fault.{Fault}
-use Rattle.cost_file.specs.Records.{bytes-of, packed, fault, unless, first-of, record-fault}
+use Rattle.plans.specs.Refusals.{unless, first-of}
+use Rattle.cost_file.specs.Records.{bytes-of, packed, fault, record-fault}
 
 -- what a cost file keeps: the plan, the slot costs of all symbols one after another, and the payload if it was stored
 pub record Kept : Type 0 where

@@ -8,6 +8,7 @@ use Rattle.std.specs.declared.option.Option.{Option}
 use Rattle.std.specs.declared.option.Option.the-variants.{Some, None}
 use Rattle.plans.specs.declared.refusals.Refusal.{Refusal}
 use Rattle.plans.specs.declared.refusals.Refusal.the-variants.{RecordCheck, RecordHead}
+use Rattle.plans.specs.Refusals.{unless, first-of}
 use Rattle.polynomial.specs.Bytes.{check-of}
 use Rattle.cost_file.specs.declared.faults.Layer.{Layer}
 use Rattle.cost_file.specs.declared.faults.Layer.the-variants.{File, Plan, Contents}
@@ -42,16 +43,6 @@ packed kind number body = (head-of kind number ++ body) ++ bytes-of 4 (check-of 
 
 abbrev pub fault : Refusal → ℕ → Layer → Fault
 fault refusal number layer = record { refusal = refusal; «record» = number; layer = layer }
-
--- a fault where a test fails
-abbrev pub unless : Bool → Fault → Option Fault
-unless true x = None
-unless false x = Some x
-
--- the first of two faults
-abbrev pub first-of : Option Fault → Option Fault → Option Fault
-first-of (Some x) later = Some x
-first-of None later = later
 
 -- what is wrong with the bytes of a record whose kind and number are due: first its check, then its head
 unfoldable pub record-fault : ℕ → ℕ → List ℕ → Option Fault

@@ -10,6 +10,7 @@ use block::Block;
 use block::Trouble;
 use block::lay_out;
 use cost_file::CostFile;
+use cost_file::CostFileRecords;
 use cost_file::Record;
 use cost_file::open;
 use plans::PlanValues;
@@ -72,13 +73,10 @@ fn word(same: bool) -> &'static str {
     if same { "yes" } else { "no" }
 }
 
-fn show_records(rt: &LibcRuntime, mut file: CostFile, block: &Block, payload: &[u8]) -> io::Result<()> {
+fn show_records(rt: &LibcRuntime, file: CostFile, block: &Block, payload: &[u8]) -> io::Result<()> {
     let mut records = 0u32;
     let mut rows = Vec::new(rt.alloc());
-    for _ in 0..70_000u32 {
-        let Some(record) = file.next_record() else {
-            break;
-        };
+    for record in file {
         records = records.saturating_add(1);
         match record {
             Record::Plan { values, offset, .. } => {
