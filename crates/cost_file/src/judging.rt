@@ -17,7 +17,7 @@ fn same(a: &[u8], b: &[u8]) -> bool
 }
 
 /// Judges a record whose kind and number are due: first its check, then its head.
-pub fn judge(bytes: &[u8], due: Kind, number: u16) -> Result<(), Fault>
+pub(crate) fn judge(bytes: &[u8], due: Kind, number: u16) -> Result<(), Fault>
     ensures value { λ r. ⌜ errPart r ≡ record-fault (kind-of due) number (now (bytes .entry)) ⌝ }
 {
     let record = u32::from(number);

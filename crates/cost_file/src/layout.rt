@@ -7,7 +7,7 @@ ghost use Rattle.cost_file.specs.Files.{rows-end};
 use plans::Plan;
 
 /// Where the record of row `k` begins, if rows have this many slots.
-pub fn row_at(slots: usize, k: usize) -> usize
+pub(crate) fn row_at(slots: usize, k: usize) -> usize
     requires { ⌜ slots ≤ 65535 ⌝ ∗ ⌜ k ≤ 65535 ⌝ }
     ensures value { λ r. ⌜ r ≡ 16 + k * (slots + 8) ⌝ }
     ensures bound { λ r. ⌜ r < 2 ^ 33 ⌝ }
@@ -16,7 +16,7 @@ pub fn row_at(slots: usize, k: usize) -> usize
 }
 
 /// The length of a file that has no payload.
-pub fn rows_end(plan: Plan) -> usize
+pub(crate) fn rows_end(plan: Plan) -> usize
     ensures value { λ r. ⌜ r ≡ rows-end (plan .values) ⌝ }
     ensures bound { λ r. ⌜ r + plan .values .bytes + 8 ≤ 600000 ⌝ }
 {
@@ -24,7 +24,7 @@ pub fn rows_end(plan: Plan) -> usize
 }
 
 /// The length of a file with its payload, or of one without.
-pub fn length_due(plan: Plan, stored: bool) -> usize
+pub(crate) fn length_due(plan: Plan, stored: bool) -> usize
     ensures value { λ r. ⌜ r ≡ cond stored (rows-end (plan .values) + plan .values .bytes + 8) (rows-end (plan .values)) ⌝ }
     ensures bound { λ r. ⌜ r ≤ 600000 ⌝ }
 {

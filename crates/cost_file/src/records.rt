@@ -14,14 +14,14 @@ pub enum Kind {
 
 impl Kind {
     /// The number of a kind in the head of a record.
-    pub fn number(self) -> u8
+    pub(crate) fn number(self) -> u8
         ensures value { λ r. ⌜ r ≡ kind-of self ⌝ }
     {
         self as u8
     }
 
     /// The head of a record of this kind.
-    pub fn head(self, number: u16) -> [u8; 4]
+    pub(crate) fn head(self, number: u16) -> [u8; 4]
         ensures value { λ r. ⌜ r ≡ head-of (kind-of self) number ⌝ }
     {
         let [high, low] = number.to_be_bytes();

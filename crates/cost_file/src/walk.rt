@@ -20,7 +20,7 @@ use plans::PlanValues;
 use plans::Refusal;
 
 /// Whether a file can be one at all.
-pub fn judge_length(file: &[u8]) -> Result<(), Fault>
+pub(crate) fn judge_length(file: &[u8]) -> Result<(), Fault>
     ensures value { λ r. ⌜ errPart r ≡ length-fault (now (file .entry)) ⌝ }
 {
     if file.len() < 16 || file.len() > 600_000 {
@@ -30,7 +30,7 @@ pub fn judge_length(file: &[u8]) -> Result<(), Fault>
 }
 
 /// Judges the plan's record, and then the spare byte in its body.
-pub fn judge_first(file: &[u8]) -> Result<(), Fault>
+pub(crate) fn judge_first(file: &[u8]) -> Result<(), Fault>
     requires { ⌜ 16 ≤ length (now file) ⌝ }
     ensures value { λ r. ⌜ errPart r ≡ plan-record-fault (now (file .entry)) ⌝ }
 {
@@ -42,7 +42,7 @@ pub fn judge_first(file: &[u8]) -> Result<(), Fault>
 }
 
 /// The numbers in the plan's record.
-pub fn read_plan(file: &[u8]) -> PlanValues
+pub(crate) fn read_plan(file: &[u8]) -> PlanValues
     requires { ⌜ 16 ≤ length (now file) ⌝ }
     ensures value { λ r. ⌜ r ≡ plan-in (now (file .entry)) ⌝ }
 {
@@ -55,7 +55,7 @@ pub fn read_plan(file: &[u8]) -> PlanValues
 }
 
 /// Asks the questions of a plan, with a limit of one's own on the payload bytes.
-pub fn accept_within(values: PlanValues, most: u32) -> Result<Plan, Fault>
+pub(crate) fn accept_within(values: PlanValues, most: u32) -> Result<Plan, Fault>
     ensures cases { λ r. ⌜ elim r [
       | Ok p ↦ (p .values ≡ values) × (at-layer-two (refusal-within most values) ≡ None)
       | Err e ↦ at-layer-two (refusal-within most values) ≡ Some e
@@ -71,7 +71,7 @@ pub fn accept_within(values: PlanValues, most: u32) -> Result<Plan, Fault>
 }
 
 /// Whether the file's length is one of the two that are due.
-pub fn judge_due(file: &[u8], plan: Plan) -> Result<(), Fault>
+pub(crate) fn judge_due(file: &[u8], plan: Plan) -> Result<(), Fault>
     ensures value { λ r. ⌜ errPart r ≡ due-fault (plan .values) (now (file .entry)) ⌝ }
 {
     if file.len() != length_due(plan, false) && file.len() != length_due(plan, true) {
@@ -81,7 +81,7 @@ pub fn judge_due(file: &[u8], plan: Plan) -> Result<(), Fault>
 }
 
 /// Judges the records of all rows in their order.
-pub fn judge_rows(file: &[u8], plan: Plan) -> Result<(), Fault>
+pub(crate) fn judge_rows(file: &[u8], plan: Plan) -> Result<(), Fault>
     requires { ⌜ rows-end (plan .values) ≤ length (now file) ⌝ }
     ensures value { λ r. ⌜ errPart r ≡ rows-fault (plan .values) (now (file .entry)) 0 (symbols (plan .values)) ⌝ }
 {
@@ -94,7 +94,7 @@ pub fn judge_rows(file: &[u8], plan: Plan) -> Result<(), Fault>
 }
 
 /// Judges the payload's record, if there is one.
-pub fn judge_payload(file: &[u8], plan: Plan) -> Result<(), Fault>
+pub(crate) fn judge_payload(file: &[u8], plan: Plan) -> Result<(), Fault>
     requires { ⌜ rows-end (plan .values) ≤ length (now file) ⌝ }
     ensures value { λ r. ⌜ errPart r ≡ payload-fault (plan .values) (now (file .entry)) ⌝ }
 {

@@ -38,7 +38,12 @@ impl From<AllocError> for Trouble as TroubleFromAlloc {
 }
 
 /// Encodes a payload and lays out its file.
-pub fn lay_out(heap: Global, values: PlanValues, payload: &[u8], cost: u8) -> Result<Block, Trouble> {
+pub(crate) fn lay_out(
+    heap: Global,
+    values: PlanValues,
+    payload: &[u8],
+    cost: u8,
+) -> Result<Block, Trouble> {
     let plan = Plan::accept(values)?;
     let mut sent = vec![in heap; 0u8; plan.symbols()]?;
     encode(values, payload, sent.as_mut_slice())?;

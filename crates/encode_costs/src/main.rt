@@ -27,13 +27,27 @@ fn main(rt: LibcRuntime) -> Result<(), AnyError> {
 
 fn run(rt: &LibcRuntime) -> Result<(), AnyError> {
     let Some(request) = asked(rt)? else {
-        println!(rt, "usage: encode_costs BITS A B COST [FILE], payload on standard input")?;
+        println!(
+            rt,
+            "usage: encode_costs BITS A B COST [FILE], payload on standard input"
+        )?;
         return Ok(());
     };
     let mut payload = Vec::new(rt.alloc());
     rt.stdin().take(1022).read_to_end(&mut payload)?;
-    let Request { bits, a, b, cost, file } = request;
-    let values = PlanValues { bytes: payload.len().min(1022) as u32, bits, a, b };
+    let Request {
+        bits,
+        a,
+        b,
+        cost,
+        file,
+    } = request;
+    let values = PlanValues {
+        bytes: payload.len().min(1022) as u32,
+        bits,
+        a,
+        b,
+    };
     show_plan(rt, values)?;
     match lay_out(rt.alloc(), values, payload.as_slice(), cost) {
         Ok(block) => {
@@ -65,7 +79,13 @@ fn show_block(rt: &LibcRuntime, block: &Block, payload: &[u8]) -> io::Result<()>
     println!(rt, "file {} bytes", block.file.len())?;
     match open(block.file.as_slice()) {
         Ok(file) => show_records(rt, file, block, payload),
-        Err(fault) => println!(rt, "fault {} {} {}", fault.refusal.number(), fault.record, fault.layer.number()),
+        Err(fault) => println!(
+            rt,
+            "fault {} {} {}",
+            fault.refusal.number(),
+            fault.record,
+            fault.layer.number()
+        ),
     }
 }
 
@@ -85,11 +105,19 @@ fn show_records(rt: &LibcRuntime, file: CostFile, block: &Block, payload: &[u8])
             }
             Record::Row { bytes, .. } => rows.extend_from_slice(bytes)?,
             Record::Payload { bytes, offset } => {
-                println!(rt, "read payload at {offset} same {}", word(bytes == payload))?;
+                println!(
+                    rt,
+                    "read payload at {offset} same {}",
+                    word(bytes == payload)
+                )?;
             }
         }
     }
-    println!(rt, "read rows same {}", word(rows.as_slice() == block.rows.as_slice()))?;
+    println!(
+        rt,
+        "read rows same {}",
+        word(rows.as_slice() == block.rows.as_slice())
+    )?;
     println!(rt, "read {records} records")
 }
 

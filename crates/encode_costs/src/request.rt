@@ -21,7 +21,7 @@ fn number(word: Option<String>) -> Option<u32> {
 }
 
 /// The request, or none where a number is missing or is none.
-pub fn asked(rt: &LibcRuntime) -> io::Result<Option<Request>> {
+pub(crate) fn asked(rt: &LibcRuntime) -> io::Result<Option<Request>> {
     let mut words = env::args(rt)?;
     let _name = words.next();
     let Some(bits) = number(words.next()) else {
@@ -39,5 +39,11 @@ pub fn asked(rt: &LibcRuntime) -> io::Result<Option<Request>> {
     if cost > 255 {
         return Ok(None);
     }
-    Ok(Some(Request { bits, a, b, cost: cost as u8, file: words.next() }))
+    Ok(Some(Request {
+        bits,
+        a,
+        b,
+        cost: cost as u8,
+        file: words.next(),
+    }))
 }

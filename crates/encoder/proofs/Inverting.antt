@@ -76,9 +76,9 @@ module _ (v : PlanValues) (u w : List Bool) (some : 0 < v .bits) (whole : symbol
   same-data h (suc n) k l s =
       let e : even-bit u k ≡ even-bit w k = sym (even-coded u k) ∙ h (2 * k) (omega arith) ∙ even-coded w k in
       let back : earlier u k 2 ≡ earlier w k 2 = ⊎-elim
-          (λ few. rw (lt-leb 2 k few) refl)
-          (λ many. rw (le-leb 2 k many) (same-data h n (k - 2) (omega arith) (omega arith)))
-          (cases-lt k 2) in
+      (λ few. rw (lt-leb 2 k few) refl)
+      (λ many. rw (le-leb 2 k many) (same-data h n (k - 2) (omega arith) (omega arith)))
+      (cases-lt k 2) in
       xor-cancel (getD u k false) (getD w k false) (earlier w k 2) (ap (xor (getD u k false)) (sym back) ∙ e)
 
 payload-bit : (x : List ℕ) (k : ℕ) → k < 8 * length x → getD (data-bits x) k false ≡ getD (bits x) k false
@@ -91,13 +91,13 @@ only-payload v payload some whole perm good long other fine size same =
     let u = data-bits other in
     let w = data-bits payload in
     let slots-same : (k : ℕ) → k < symbols v → slot v u k ≡ slot v w k = λ k l.
-        sym (getD-map-counting (slot v u) 0 (symbols v) k k 0 l (omega arith)) ∙ ap (λ (xs : List ℕ). getD xs k 0) same ∙ getD-map-counting (slot v w) 0 (symbols v) k k 0 l (omega arith) in
+    sym (getD-map-counting (slot v u) 0 (symbols v) k k 0 l (omega arith)) ∙ ap (λ (xs : List ℕ). getD xs k 0) same ∙ getD-map-counting (slot v w) 0 (symbols v) k k 0 l (omega arith) in
     let data-same : (k : ℕ) → k < stages v → getD u k false ≡ getD w k false = λ k l.
-        same-data v u w some whole (same-coded v u w some whole perm (same-interleaved v u w some whole (same-accumulated v u w some whole slots-same))) (suc k) k (omega arith) l in
+    same-data v u w some whole (same-coded v u w some whole perm (same-interleaved v u w some whole (same-accumulated v u w some whole slots-same))) (suc k) k (omega arith) l in
     let lengths : length (bits other) ≡ length (bits payload) = length-bits other ∙ ap (λ n. 8 * n) (size ∙ sym long) ∙ sym (length-bits payload) in
     let bits-same : bits other ≡ bits payload = ext-getD false (bits other) (bits payload) lengths
-        (λ k l.
-        let lo : k < 8 * length other = rw (length-bits other) at l in
-        let lp : k < 8 * length payload = omega arith in
-        sym (payload-bit other k lo) ∙ data-same k (omega arith) ∙ payload-bit payload k lp) in
+    (λ k l.
+    let lo : k < 8 * length other = rw (length-bits other) at l in
+    let lp : k < 8 * length payload = omega arith in
+    sym (payload-bit other k lo) ∙ data-same k (omega arith) ∙ payload-bit payload k lp) in
     bits-apart other payload fine good (size ∙ sym long) bits-same

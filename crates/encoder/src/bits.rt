@@ -17,7 +17,6 @@ fn digit(x: u32, k: u32) -> bool
     (x >> k) & 1 == 1
 }
 
-
 // The data bit of stage k, zero past the last.
 fn data_bit(payload: &[u8], check: u32, k: usize) -> bool
     requires bound { ⌜ length (now payload) ≤ 1021 ⌝ }
@@ -53,5 +52,9 @@ pub(crate) fn coded_bit(payload: &[u8], check: u32, i: usize) -> bool
     let now = data_bit(payload, check, k);
     let last = earlier_bit(payload, check, k, 1);
     let before = earlier_bit(payload, check, k, 2);
-    if i % 2 == 0 { now != before } else { (now != last) != before }
+    if i % 2 == 0 {
+        now != before
+    } else {
+        (now != last) != before
+    }
 }

@@ -20,7 +20,9 @@ fn accumulate(plan: Plan, payload: &[u8], check: u32, j: usize, held: bool) -> b
     requires before { ⌜ held ≡ held-before (interleaved-bit (plan .values) (data-bits (now payload))) j ⌝ }
     ensures value { λ r. ⌜ r ≡ held-before (interleaved-bit (plan .values) (data-bits (now (payload .entry)))) (j + 1) ⌝ }
 {
-    let Some(i) = plan.interleave(j) else { unreachable() };
+    let Some(i) = plan.interleave(j) else {
+        unreachable()
+    };
     coded_bit(payload, check, i) != held
 }
 

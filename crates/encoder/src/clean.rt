@@ -16,7 +16,11 @@ fn cost_at(sent: &[u8], m: usize, cost: u8, i: usize) -> u8
     requires inside { ⌜ i < length (now sent) * m ⌝ }
     ensures value { λ r. ⌜ r ≡ clean-cost m (now (sent .entry)) cost i ⌝ }
 {
-    if i % m == usize::from(sent[i / m]) { 0 } else { cost }
+    if i % m == usize::from(sent[i / m]) {
+        0
+    } else {
+        cost
+    }
 }
 
 // Lays the costs of n slots, m to a symbol, into the front of `rows`.
@@ -35,7 +39,12 @@ fn fill(sent: &[u8], m: usize, n: usize, cost: u8, rows: &mut [u8])
 /// Lays the slot costs of a block without noise into the front of `rows`, a row of bytes for each
 /// symbol: 0 at the slot that was sent, `cost` at every other. The answer is the number of bytes.
 /// A refusal leaves `rows` alone.
-pub fn lay_clean(values: PlanValues, sent: &[u8], cost: u8, rows: &mut [u8]) -> Result<usize, Refusal>
+pub fn lay_clean(
+    values: PlanValues,
+    sent: &[u8],
+    cost: u8,
+    rows: &mut [u8],
+) -> Result<usize, Refusal>
     ensures cases { λ r. ⌜ Lays values (now (sent .entry)) cost (now (rows .entry)) (now (rows .exit)) r ⌝ }
 {
     let plan = Plan::accept(values)?;

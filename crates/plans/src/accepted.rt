@@ -9,9 +9,9 @@ ghost use Rattle.std.specs.declared.option.Option.the-variants.{Some, None};
 ghost use Rattle.std.specs.declared.result.Result.the-variants.{Ok, Err};
 ghost use Rattle.plans.specs.Permutations.{Permutation};
 ghost use Rattle.plans.specs.Plans.{stages, coded, symbols, slots, interleaver, sized, grouped, permuting, plan-refusal, Answered};
-use crate::common_divisor;
 use crate::PlanValues;
 use crate::Refusal;
+use crate::common_divisor;
 
 /// A plan that every question was answered yes for.
 #[derive(Clone, Copy)]

@@ -17,7 +17,7 @@ returns-in-rest c =
     let l : length (c .args .bytes .now) < 4 = omega (arith, ltb-true) in
     record {
       value = ap Some (c .new .ensures .value) ∙ ap (λ n. Some (fault RecordCheck n File)) (c .from-record .ensures)
-        ∙ sym (too-short (kind-of (c .args .due)) (c .args .number) (c .args .bytes .now) l);
+          ∙ sym (too-short (kind-of (c .args .due)) (c .args .number) (c .args .bytes .now) l);
     }
 
 pub returns-then-not-same : need.returns-then-not-same
@@ -25,7 +25,7 @@ returns-then-not-same c =
     let l : 4 ≤ length (c .args .bytes .now) = omega (arith, ltb-false) in
     record {
       value = ap Some (c .new-then-not-same .ensures .value) ∙ ap (λ n. Some (fault RecordCheck n File)) (c .from-record .ensures)
-        ∙ judged (kind-of (c .args .due)) (c .args .number) (c .check .result) (c .args .bytes .now) (c .to-be-bytes-sum .result) (head-of (kind-of (c .args .due)) (c .args .number)) false _
+          ∙ judged (kind-of (c .args .due)) (c .args .number) (c .check .result) (c .args .bytes .now) (c .to-be-bytes-sum .result) (head-of (kind-of (c .args .due)) (c .args .number)) false _
           l (c .check .ensures .value) (c .to-be-bytes-sum .ensures ∙ sym (four-bytes (c .check .result))) (c .if-not-same .ensures tt .value) refl refl;
     }
 
@@ -34,7 +34,7 @@ returns-then-not-same-2 c =
     let l : 4 ≤ length (c .args .bytes .now) = omega (arith, ltb-false) in
     record {
       value = ap Some (c .new-then-not-same-2 .ensures .value) ∙ ap (λ n. Some (fault RecordHead n File)) (c .from-record .ensures)
-        ∙ judged (kind-of (c .args .due)) (c .args .number) (c .check .result) (c .args .bytes .now) (c .to-be-bytes-sum .result) (c .head .result) true false
+          ∙ judged (kind-of (c .args .due)) (c .args .number) (c .check .result) (c .args .bytes .now) (c .to-be-bytes-sum .result) (c .head .result) true false
           l (c .check .ensures .value) (c .to-be-bytes-sum .ensures ∙ sym (four-bytes (c .check .result))) (c .if-not-same .ensures tt .value) (c .head .ensures .value) (c .if-not-same-2 .ensures tt .value);
     }
 
@@ -43,5 +43,5 @@ returns c =
     let l : 4 ≤ length (c .args .bytes .now) = omega (arith, ltb-false) in
     record {
       value = judged (kind-of (c .args .due)) (c .args .number) (c .check .result) (c .args .bytes .now) (c .to-be-bytes-sum .result) (c .head .result) true true
-        l (c .check .ensures .value) (c .to-be-bytes-sum .ensures ∙ sym (four-bytes (c .check .result))) (c .if-not-same .ensures tt .value) (c .head .ensures .value) (c .if-not-same-2 .ensures tt .value);
+          l (c .check .ensures .value) (c .to-be-bytes-sum .ensures ∙ sym (four-bytes (c .check .result))) (c .if-not-same .ensures tt .value) (c .head .ensures .value) (c .if-not-same-2 .ensures tt .value);
     }

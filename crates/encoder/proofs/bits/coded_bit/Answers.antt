@@ -13,7 +13,7 @@ unfolding coded-bit
 returns-then-i-eq0 c =
     record {
       value = differs (c .data-bit-now .result) (c .earlier-bit-before .result)
-      ∙ rw (c .data-bit-now .ensures .value, c .earlier-bit-before .ensures .value, c .if-i-eq0 .taken) refl;
+          ∙ rw (c .data-bit-now .ensures .value, c .earlier-bit-before .ensures .value, c .if-i-eq0 .taken) refl;
     }
 
 pub returns-else-i-eq0 : need.returns-else-i-eq0
@@ -22,6 +22,6 @@ returns-else-i-eq0 c =
     let odd : eqb (c .args .i % 2) 0 ≡ false = ne-eqb (c .args .i % 2) 0 (c .if-i-eq0 .left) in
     record {
       value = ap (λ b. not (Bool·beq b (c .earlier-bit-before .result))) (differs (c .data-bit-now .result) (c .earlier-bit-last .result))
-      ∙ differs (xor (c .data-bit-now .result) (c .earlier-bit-last .result)) (c .earlier-bit-before .result)
-      ∙ rw (c .data-bit-now .ensures .value, c .earlier-bit-last .ensures .value, c .earlier-bit-before .ensures .value, odd) refl;
+          ∙ differs (xor (c .data-bit-now .result) (c .earlier-bit-last .result)) (c .earlier-bit-before .result)
+          ∙ rw (c .data-bit-now .ensures .value, c .earlier-bit-last .ensures .value, c .earlier-bit-before .ensures .value, odd) refl;
     }

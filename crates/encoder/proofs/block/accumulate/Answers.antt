@@ -25,6 +25,6 @@ pub returns : need.returns
 returns c =
     record {
       value = differs (c .coded-bit .result) (c .args .held)
-      ∙ next (c .args .plan .values) (data-bits (c .args .payload .now)) (c .args .j) (c .in-Some .i) (c .coded-bit .result) (c .args .held) (c .coded-bit .ensures .value)
-      (found (c .args .plan .values) (c .args .j) (c .in-Some .i) (c .pre .inside) (c .in-Some .ensures tt .value)) (c .pre .before);
+          ∙ next (c .args .plan .values) (data-bits (c .args .payload .now)) (c .args .j) (c .in-Some .i) (c .coded-bit .result) (c .args .held) (c .coded-bit .ensures .value)
+          (found (c .args .plan .values) (c .args .j) (c .in-Some .i) (c .pre .inside) (c .in-Some .ensures tt .value)) (c .pre .before);
     }

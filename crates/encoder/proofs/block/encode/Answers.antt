@@ -68,6 +68,6 @@ returns c =
     let ok = accepted (plan .values) (plan .accepted) in
     record {
       cases = wrote (c .args .values) (plan .values) (c .args .payload .now) (c .args .out .now) (c .lay .last .out) (c .symbols-n .result)
-      (a .0) (a .1) (permutation (plan .values) (ok .2)) (ok .1 .low) (c .symbols-n .ensures .value) (c .symbols-n .ensures .whole)
-      (c .if-payload-bytes .left ∙ c .bytes .ensures .value) (c .if-out-n .left) (λ k. let t = c .typed .payload k in omega arith) (c .lay .ensures .front) (c .lay .ensures .tail);
+          (a .0) (a .1) (permutation (plan .values) (ok .2)) (ok .1 .low) (c .symbols-n .ensures .value) (c .symbols-n .ensures .whole)
+          (c .if-payload-bytes .left ∙ c .bytes .ensures .value) (c .if-out-n .left) (λ k. let t = c .typed .payload k in omega arith) (c .lay .ensures .front) (c .lay .ensures .tail);
     }

@@ -21,10 +21,11 @@ loop-k-holds c =
 
 pub loop-k-again : need.loop-k-again
 loop-k-again c =
-    let e : c .loop-k .k * c .args .plan .values .bits + c .args .plan .values .bits ≡ (c .loop-k .k + 1) * c .args .plan .values .bits = omega arith in
-    (c .slot-of-value .ensures .held ∙ ap (held-before (interleaved-bit (c .args .plan .values) (data-bits (c .args .payload .now)))) e,
-     filled-more (slot (c .args .plan .values) (data-bits (c .args .payload .now))) (c .loop-k .out) (c .loop-k .k) (c .slot-of-value .result .0) (omega arith) (c .loop-k .inv .1) (c .slot-of-value .ensures .value),
-     drop-set-lt (symbols (c .args .plan .values)) (c .loop-k .out) (c .loop-k .k) (c .slot-of-value .result .0) (omega arith) ∙ c .loop-k .inv .2)
+    let e : c .loop-k .k * c .args .plan .values .bits + c .args .plan .values .bits ≡ (c .loop-k .k + 1) * c .args .plan .values .bits = omega arith in (
+      c .slot-of-value .ensures .held ∙ ap (held-before (interleaved-bit (c .args .plan .values) (data-bits (c .args .payload .now)))) e,
+      filled-more (slot (c .args .plan .values) (data-bits (c .args .payload .now))) (c .loop-k .out) (c .loop-k .k) (c .slot-of-value .result .0) (omega arith) (c .loop-k .inv .1) (c .slot-of-value .ensures .value),
+      drop-set-lt (symbols (c .args .plan .values)) (c .loop-k .out) (c .loop-k .k) (c .slot-of-value .result .0) (omega arith) ∙ c .loop-k .inv .2,
+    )
 
 pub returns : need.returns
 unfolding encoded

@@ -47,9 +47,11 @@ done-held v u k m i b e l h em =
     e ∙ ap (λ n. held-before (interleaved-bit v u) (k * m + n)) same ∙ ap (λ n. held-before (interleaved-bit v u) (k * n + v .bits)) em
 
 pub loop-i-holds : need.loop-i-holds
-loop-i-holds c =
-    (c .pre .before ∙ ap (λ n. held-before (interleaved-bit (c .args .plan .values) (data-bits (c .args .payload .now))) (c .args .k * n)) (sym (c .bits-m .ensures .value))
-     ∙ ap (held-before (interleaved-bit (c .args .plan .values) (data-bits (c .args .payload .now)))) (sym (add-zero (c .args .k * c .bits-m .result))), refl)
+loop-i-holds c = (
+  c .pre .before ∙ ap (λ n. held-before (interleaved-bit (c .args .plan .values) (data-bits (c .args .payload .now))) (c .args .k * n)) (sym (c .bits-m .ensures .value))
+      ∙ ap (held-before (interleaved-bit (c .args .plan .values) (data-bits (c .args .payload .now)))) (sym (add-zero (c .args .k * c .bits-m .result))),
+  refl,
+)
 
 pub accumulate-acc-requires : need.accumulate-acc-requires
 accumulate-acc-requires c κs =
@@ -72,9 +74,10 @@ add-value c =
     omega arith
 
 pub loop-i-again : need.loop-i-again
-loop-i-again c =
-    (c .accumulate-acc .ensures .value ∙ ap (held-before (interleaved-bit (c .args .plan .values) (data-bits (c .args .payload .now)))) (add-assoc (c .args .k * c .bits-m .result) (c .loop-i .i) 1),
-     more (c .args .plan .values) (data-bits (c .args .payload .now)) (c .args .k * c .bits-m .result) (c .loop-i .i) (c .loop-i .value) (c .from .result) (c .accumulate-acc .result) (c .loop-i .inv .1) (c .accumulate-acc .ensures .value) (c .from .ensures))
+loop-i-again c = (
+  c .accumulate-acc .ensures .value ∙ ap (held-before (interleaved-bit (c .args .plan .values) (data-bits (c .args .payload .now)))) (add-assoc (c .args .k * c .bits-m .result) (c .loop-i .i) 1),
+  more (c .args .plan .values) (data-bits (c .args .payload .now)) (c .args .k * c .bits-m .result) (c .loop-i .i) (c .loop-i .value) (c .from .result) (c .accumulate-acc .result) (c .loop-i .inv .1) (c .accumulate-acc .ensures .value) (c .from .ensures),
+)
 
 pub cast-result : need.cast-result
 cast-result c =

@@ -9,9 +9,10 @@ use Rattle.encoder.proofs.Symbols.{filled-more}
 use Rattle.encoder.proofs.clean.fill.Needs as need
 
 pub loop-i-again : need.loop-i-again
-loop-i-again c =
-    (filled-more (clean-cost (c .args .m) (c .args .sent .now) (c .args .cost)) (c .loop-i .rows) (c .loop-i .i) (c .cost-at .result) (omega arith) (c .loop-i .inv .0) (c .cost-at .ensures .value),
-     drop-set-lt (c .args .n) (c .loop-i .rows) (c .loop-i .i) (c .cost-at .result) (c .loop-i-test .taken) ∙ c .loop-i .inv .1)
+loop-i-again c = (
+  filled-more (clean-cost (c .args .m) (c .args .sent .now) (c .args .cost)) (c .loop-i .rows) (c .loop-i .i) (c .cost-at .result) (omega arith) (c .loop-i .inv .0) (c .cost-at .ensures .value),
+  drop-set-lt (c .args .n) (c .loop-i .rows) (c .loop-i .i) (c .cost-at .result) (c .loop-i-test .taken) ∙ c .loop-i .inv .1,
+)
 
 pub returns : need.returns
 returns c =

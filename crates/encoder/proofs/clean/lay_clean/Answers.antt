@@ -65,5 +65,5 @@ returns c =
     let a = c .in-Continue-plan .ensures tt .cases in
     record {
       cases = laid (c .args .values) (c .in-Continue-plan .plan .values) (c .args .sent .now) (c .args .rows .now) (c .fill .last .rows) (c .args .cost) (c .symbols-symbols .result) (c .slots-m .result)
-      (a .0) (a .1) (c .symbols-symbols .ensures .value) (c .slots-m .ensures .value) (c .if-sent-symbols .left) (c .if-rows-n .left) (c .fill .ensures .front) (c .fill .ensures .tail);
+          (a .0) (a .1) (c .symbols-symbols .ensures .value) (c .slots-m .ensures .value) (c .if-sent-symbols .left) (c .if-rows-n .left) (c .fill .ensures .front) (c .fill .ensures .tail);
     }
