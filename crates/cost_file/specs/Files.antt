@@ -112,7 +112,5 @@ lengths-fit c = eqb (length (c .rows)) (symbols (c .plan) * slots (c .plan)) && 
 
 -- the first question of the writer answered no, where its output has `room` bytes
 unfoldable pub write-refusal : Kept → ℕ → Option Refusal
-write-refusal c room = elim (plan-refusal (c .plan)) [
-  | Some refusal ↦ Some refusal
-  | None ↦ cond (lengths-fit c) (cond (leb (length (written c)) room) None (Some Room)) (Some Lengths)
-]
+write-refusal c room =
+    first-of (plan-refusal (c .plan)) (first-of (unless (lengths-fit c) Lengths) (unless (leb (length (written c)) room) Room))

@@ -9,7 +9,10 @@ use denote.Ref.{now, RefT}
 use Rattle.std.specs.Options.{isSome, mapped}
 use Rattle.std.specs.declared.option.Option.{Option}
 use Rattle.std.specs.declared.option.Option.the-variants.{Some, None}
+use Rattle.std.specs.declared.result.Result.{Result}
+use Rattle.std.specs.declared.result.Result.the-variants.{Ok, Err}
 use Rattle.plans.specs.declared.values.PlanValues.{PlanValues}
+use Rattle.plans.specs.declared.refusals.Refusal.{Refusal}
 use Rattle.plans.specs.Plans.{symbols, slots, plan-refusal}
 use Rattle.cost_file.specs.declared.reader.CostFile.{CostFile}
 use Rattle.cost_file.specs.declared.records.Record.{Record}
@@ -43,6 +46,11 @@ pub record Wrote (c : Kept) (n : ℕ) (was is : List ℕ) : Type 0 where
   pub front : take n is ≡ written c
   pub tail : drop n is ≡ drop n was
   pub reads : Reads-back c (take n is)
+
+-- the answer of the writer and its buffer: written, or the first question answered no with the buffer as it was
+abbrev pub Writes : Kept → List ℕ → List ℕ → Result ℕ Refusal → Type 0
+Writes c was is (Ok n) = Wrote c n was is
+Writes c was is (Err refusal) = (write-refusal c (length was) ≡ Some refusal) × (is ≡ was)
 
 -- an accepted file is, byte for byte, what the writer writes of what it keeps
 pub record Accepted (most : ℕ) (f : List ℕ) : Type 0 where

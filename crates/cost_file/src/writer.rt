@@ -10,7 +10,7 @@ ghost use Rattle.std.specs.declared.result.Result.the-variants.{Ok, Err};
 ghost use Rattle.plans.specs.Plans.{symbols, slots};
 ghost use Rattle.cost_file.specs.Records.{kind-of, packed};
 ghost use Rattle.cost_file.specs.Files.{plan-body, rows-written, rows-end, written, lengths-fit, write-refusal};
-ghost use Rattle.cost_file.specs.Promises.{kept, Laid, Wrote};
+ghost use Rattle.cost_file.specs.Promises.{kept, Laid, Writes};
 use crate::layout::length_due;
 use crate::layout::row_at;
 use crate::layout::rows_end;
@@ -96,10 +96,7 @@ pub fn write(
     payload: Option<&[u8]>,
     out: &mut [u8],
 ) -> Result<usize, Refusal>
-    ensures cases { λ r. ⌜ elim r [
-      | Ok n ↦ Wrote (kept values (now (rows .entry)) (payload .entry)) n (now (out .entry)) (now (out .exit))
-      | Err e ↦ (write-refusal (kept values (now (rows .entry)) (payload .entry)) (length (now (out .entry))) ≡ Some e) × (now (out .exit) ≡ now (out .entry))
-    ] ⌝ }
+    ensures cases { λ r. ⌜ Writes (kept values (now (rows .entry)) (payload .entry)) (now (out .entry)) (now (out .exit)) r ⌝ }
 {
     let plan = Plan::accept(values)?;
     if !has_lengths(plan, rows, payload) {

@@ -1,6 +1,9 @@
 //! A block without noise, laid out as a cost file.
 
-ghost use mathlib.Core.Path.{_≡_};
+ghost use lib.ListN.{take};
+ghost use Rattle.std.specs.Vec.{made};
+ghost use Rattle.cost_file.specs.Promises.{Reads-back};
+ghost use Rattle.encode_costs.specs.Clean.{clean-block};
 use cost_file::write;
 use encoder::encode;
 use encoder::lay_clean;
@@ -37,8 +40,24 @@ impl From<AllocError> for Trouble as TroubleFromAlloc {
     }
 }
 
-/// Encodes a payload and lays out its file.
-pub(crate) fn lay_out(
+// Encodes a payload and lays out its file, which reads back to the block without noise.
+fn lay_out(
+    values: PlanValues,
+    payload: &[u8],
+    cost: u8,
+    sent: &mut [u8],
+    rows: &mut [u8],
+    file: &mut [u8],
+) -> Result<usize, Refusal>
+    ensures laid { λ r. ⌜ made r (λ n. Reads-back (clean-block values (now (payload .entry)) cost) (take n (now (file .exit)))) ⌝ }
+{
+    let symbols = encode(values, payload, sent)?;
+    let costs = lay_clean(values, &sent[0..symbols], cost, rows)?;
+    write(values, &rows[0..costs], Some(payload), file)
+}
+
+/// The block without noise of a payload.
+pub(crate) fn clean(
     heap: Global,
     values: PlanValues,
     payload: &[u8],
@@ -46,11 +65,16 @@ pub(crate) fn lay_out(
 ) -> Result<Block, Trouble> {
     let plan = Plan::accept(values)?;
     let mut sent = vec![in heap; 0u8; plan.symbols()]?;
-    encode(values, payload, sent.as_mut_slice())?;
     let mut rows = vec![in heap; 0u8; plan.symbols() * plan.slots()]?;
-    lay_clean(values, sent.as_slice(), cost, rows.as_mut_slice())?;
     let mut file = vec![in heap; 0u8; 600_000]?;
-    let n = write(values, rows.as_slice(), Some(payload), file.as_mut_slice())?;
+    let n = lay_out(
+        values,
+        payload,
+        cost,
+        sent.as_mut_slice(),
+        rows.as_mut_slice(),
+        file.as_mut_slice(),
+    )?;
     file.truncate(n);
     Ok(Block { sent, rows, file })
 }

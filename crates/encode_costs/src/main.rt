@@ -8,7 +8,7 @@ mod request;
 
 use block::Block;
 use block::Trouble;
-use block::lay_out;
+use block::clean;
 use cost_file::CostFile;
 use cost_file::CostFileRecords;
 use cost_file::Record;
@@ -49,7 +49,7 @@ fn run(rt: &LibcRuntime) -> Result<(), AnyError> {
         b,
     };
     show_plan(rt, values)?;
-    match lay_out(rt.alloc(), values, payload.as_slice(), cost) {
+    match clean(rt.alloc(), values, payload.as_slice(), cost) {
         Ok(block) => {
             show_block(rt, &block, payload.as_slice())?;
             store(rt, &block, file)?;

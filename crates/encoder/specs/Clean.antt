@@ -2,7 +2,7 @@
 use mathlib.Core.Path.{_≡_}
 use mathlib.Core.List.{List, map}
 use mathlib.Core.Bool.{cond}
-use Prim.Native.Nat.{ℕ, _*_, _/_, _%_}
+use Prim.Native.Nat.{ℕ, _*_, _/_, _%_, _≤_}
 use lib.Dec.{eqb, leb}
 use lib.ListN.{length, getD, take, drop}
 use Rattle.std.specs.Iters.{counting}
@@ -33,6 +33,7 @@ clean-refusal v len room =
 pub record Laid (v : PlanValues) (sent : List ℕ) (cost n : ℕ) (was is : List ℕ) : Type 0 where
   pub asked : clean-refusal v (length sent) (length was) ≡ None
   pub count : n ≡ symbols v * slots v
+  pub room : n ≤ length is
   pub front : take n is ≡ clean-rows v sent cost
   pub tail : drop n is ≡ drop n was
 

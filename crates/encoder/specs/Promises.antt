@@ -1,7 +1,7 @@
 -- What the encoder promises.
 use mathlib.Core.Path.{_≡_}
 use mathlib.Core.List.{List}
-use Prim.Native.Nat.{ℕ, _<_}
+use Prim.Native.Nat.{ℕ, _<_, _≤_}
 use lib.ListN.{length, getD, take, drop}
 use Rattle.std.specs.declared.option.Option.the-variants.{Some, None}
 use Rattle.std.specs.declared.result.Result.{Result}
@@ -22,6 +22,7 @@ Only-payload v payload = (other : List ℕ) → All-bytes other → length other
 pub record Encoded (v : PlanValues) (payload : List ℕ) (n : ℕ) (was is : List ℕ) : Type 0 where
   pub asked : encode-refusal v (length payload) (length was) ≡ None
   pub count : n ≡ symbols v
+  pub room : n ≤ length is
   pub front : take n is ≡ encoded v payload
   pub tail : drop n is ≡ drop n was
   pub only : Only-payload v payload

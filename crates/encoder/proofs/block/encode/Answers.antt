@@ -50,12 +50,13 @@ returns-then-out-n c =
     let n : c .symbols-n .result ≡ symbols (c .args .values) = c .symbols-n .ensures .value ∙ ap symbols (a .0) in
     record { cases = (cramped (c .args .values) _ _ (a .1) (c .if-payload-bytes .left ∙ c .bytes .ensures .value ∙ ap (λ v. v .bytes) (a .0)) (omega arith), refl) }
 
-wrote : (v : PlanValues) (w : PlanValues) (payload was is : List ℕ) (n : ℕ) → w ≡ v → plan-refusal v ≡ None → Permutation (coded w) (interleaver w) → 2 ≤ w .bits → n ≡ symbols w → n * w .bits ≡ coded w → length payload ≡ w .bytes → n ≤ length was → All-bytes payload → take (symbols w) is ≡ encoded w payload → drop (symbols w) is ≡ drop (symbols w) was → Encoded v payload n was is
-wrote v w payload was is n e h perm two en whole len room bytes front tail =
+wrote : (v : PlanValues) (w : PlanValues) (payload was is : List ℕ) (n : ℕ) → w ≡ v → plan-refusal v ≡ None → Permutation (coded w) (interleaver w) → 2 ≤ w .bits → n ≡ symbols w → n * w .bits ≡ coded w → length payload ≡ w .bytes → n ≤ length was → n ≤ length is → All-bytes payload → take (symbols w) is ≡ encoded w payload → drop (symbols w) is ≡ drop (symbols w) was → Encoded v payload n was is
+wrote v w payload was is n e h perm two en whole len room rest bytes front tail =
     let P : PlanValues → Type 0 = λ x. Encoded x payload n was is in
     subst P e (record {
       asked = served w (length payload) (length was) (ap plan-refusal e ∙ h) len (omega arith);
       count = en;
+      room = rest;
       front = ap (λ k. take k is) en ∙ front;
       tail = ap (λ k. drop k is) en ∙ tail ∙ ap (λ k. drop k was) (sym en);
       only = only-payload w payload (omega arith) (ap (λ k. k * w .bits) (sym en) ∙ whole) perm bytes len;
@@ -69,5 +70,5 @@ returns c =
     record {
       cases = wrote (c .args .values) (plan .values) (c .args .payload .now) (c .args .out .now) (c .lay .last .out) (c .symbols-n .result)
           (a .0) (a .1) (permutation (plan .values) (ok .2)) (ok .1 .low) (c .symbols-n .ensures .value) (c .symbols-n .ensures .whole)
-          (c .if-payload-bytes .left ∙ c .bytes .ensures .value) (c .if-out-n .left) (λ k. let t = c .typed .payload k in omega arith) (c .lay .ensures .front) (c .lay .ensures .tail);
+          (c .if-payload-bytes .left ∙ c .bytes .ensures .value) (c .if-out-n .left) (omega arith) (λ k. let t = c .typed .payload k in omega arith) (c .lay .ensures .front) (c .lay .ensures .tail);
     }

@@ -49,13 +49,14 @@ returns-then-rows-n c =
     let n = size (c .args .values) (c .in-Continue-plan .plan .values) (c .symbols-symbols .result) (c .slots-m .result) (a .0) (c .symbols-symbols .ensures .value) (c .slots-m .ensures .value) in
     record { cases = (cramped (c .args .values) _ _ (a .1) (c .if-sent-symbols .left ∙ c .symbols-symbols .ensures .value ∙ ap symbols (a .0)) (omega arith), refl) }
 
-laid : (v w : PlanValues) (sent was is : List ℕ) (cost n m : ℕ) → w ≡ v → plan-refusal v ≡ None → n ≡ symbols w → m ≡ slots w → length sent ≡ n → n * m ≤ length was → take (n * m) is ≡ map (clean-cost m sent cost) (counting 0 (n * m)) → drop (n * m) is ≡ drop (n * m) was → Laid v sent cost (n * m) was is
+laid : (v w : PlanValues) (sent was is : List ℕ) (cost n m : ℕ) → w ≡ v → plan-refusal v ≡ None → n ≡ symbols w → m ≡ slots w → length sent ≡ n → n * m ≤ length was → n * m ≤ length is → take (n * m) is ≡ map (clean-cost m sent cost) (counting 0 (n * m)) → drop (n * m) is ≡ drop (n * m) was → Laid v sent cost (n * m) was is
 unfolding clean-rows
-laid v w sent was is cost n m e h en em len room front tail =
+laid v w sent was is cost n m e h en em len room rest front tail =
     let z = size v w n m e en em in
     record {
       asked = served v (length sent) (length was) h (len ∙ en ∙ ap symbols e) (omega arith);
       count = z;
+      room = rest;
       front = front ∙ ap (λ k. map (clean-cost m sent cost) (counting 0 k)) z ∙ ap (λ k. map (clean-cost k sent cost) (counting 0 (symbols v * slots v))) (em ∙ ap slots e);
       tail = tail;
     }
@@ -65,5 +66,5 @@ returns c =
     let a = c .in-Continue-plan .ensures tt .cases in
     record {
       cases = laid (c .args .values) (c .in-Continue-plan .plan .values) (c .args .sent .now) (c .args .rows .now) (c .fill .last .rows) (c .args .cost) (c .symbols-symbols .result) (c .slots-m .result)
-          (a .0) (a .1) (c .symbols-symbols .ensures .value) (c .slots-m .ensures .value) (c .if-sent-symbols .left) (c .if-rows-n .left) (c .fill .ensures .front) (c .fill .ensures .tail);
+          (a .0) (a .1) (c .symbols-symbols .ensures .value) (c .slots-m .ensures .value) (c .if-sent-symbols .left) (c .if-rows-n .left) (omega arith) (c .fill .ensures .front) (c .fill .ensures .tail);
     }
