@@ -1,0 +1,15 @@
+pub mod Gathered
+pub mod Below
+pub mod Steps
+pub mod Heights
+pub mod Reversal
+pub mod Spread
+pub mod Numbers
+pub mod Windows
+pub mod Floors
+pub mod Stand
+pub mod Candidates
+pub mod Finite
+pub mod Margins
+pub mod Bits
+pub mod LeftOut

@@ -1,0 +1,10 @@
+pub mod Semirings
+pub mod Trellises
+pub mod Paths
+pub mod Choices
+pub mod Metastages
+pub mod Columns
+pub mod Least
+pub mod Ties
+pub mod Joins
+pub mod Laws
