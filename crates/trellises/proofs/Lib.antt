@@ -1,0 +1,11 @@
+pub mod WordBits
+pub mod WordPenalties
+pub mod SlotLaws
+pub mod InnerEdges
+pub mod OuterEdges
+pub mod Reversals
+pub mod OneOf
+pub mod Taken
+pub mod InnerFree
+pub mod OuterFree
+pub mod OuterTail
