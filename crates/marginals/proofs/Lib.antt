@@ -1,0 +1,10 @@
+pub mod Answered
+pub mod Frames
+pub mod Picks
+pub mod Gatherings
+pub mod Halvings
+pub mod Folds
+pub mod Words
+pub mod FoldedJoins
+pub mod Stages
+pub mod Lawful

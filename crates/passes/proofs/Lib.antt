@@ -1,0 +1,13 @@
+pub mod Rows
+pub mod Questions
+pub mod Turns
+pub mod Dots
+pub mod Rooms
+pub mod Keeps
+pub mod Steps
+pub mod Fills
+pub mod Sums
+pub mod Blocks
+pub mod Counts
+pub mod Follows
+pub mod Stands

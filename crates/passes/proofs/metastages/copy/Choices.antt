@@ -1,0 +1,11 @@
+use mathlib.Core.Path.{_≡_}
+use Prim.Native.Nat.{ℕ, _+_, _<_}
+use lib.ListN.{getD}
+use Rattle.passes.specs.Tables.{Kept}
+use Rattle.passes.proofs.metastages.copy.Given as given
+
+abbrev pub Inv-loop-i : given.InvT-loop-i
+Inv-loop-i g l =
+    let o = g .W·Weights .ops in
+    Kept o (l .to) (l .many) (l .entry .table) (l .table)
+    × ((i : ℕ) → i < l .i → getD (l .table) (l .to + i) (o .none) ≡ getD (l .entry .table) (l .from + i) (o .none))

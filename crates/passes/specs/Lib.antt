@@ -1,0 +1,4 @@
+pub mod Tables
+pub mod Levels
+pub mod Totals
+pub mod Orders
