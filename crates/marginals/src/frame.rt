@@ -28,7 +28,7 @@ fn lay_row<W: Weights>(
 }
 
 /// Lays the frame between two columns of a table, a row for each state before the stage.
-pub fn lay_frame<W: Weights>(
+pub(crate) fn lay_frame<W: Weights>(
     table: &[W::Value],
     before: usize,
     after: usize,
@@ -45,7 +45,7 @@ pub fn lay_frame<W: Weights>(
 }
 
 /// Sets every word of so many bits to the value of no path.
-pub fn clear<W: Weights>(bits: usize, words: &mut [W::Value; 256])
+pub(crate) fn clear<W: Weights>(bits: usize, words: &mut [W::Value; 256])
     requires { ⌜ bits ≤ 8 ⌝ }
     ensures { λ _. ⌜ ((w : ℕ) → w < 2 ^ bits → getD (now (words .exit)) w (ops .none) ≡ ops .none) ⌝ }
 {

@@ -23,7 +23,7 @@ fn offer<W: Weights>(
 }
 
 /// Asks the costs of stage `k` once and each edge once, and joins what the edge offers to its word.
-pub fn gather<T: Trellis, W: Weights>(
+pub(crate) fn gather<T: Trellis, W: Weights>(
     t: &T,
     k: usize,
     frame: &[W::Value; 256],

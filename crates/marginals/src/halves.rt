@@ -8,7 +8,7 @@ ghost use Rattle.marginals.specs.Halves.{held, lower, upper};
 use paths::Weights;
 
 // How many words have so many bits.
-pub fn word_count(bits: usize) -> usize
+pub(crate) fn word_count(bits: usize) -> usize
     requires { ⌜ bits ≤ 8 ⌝ }
     ensures { λ r. ⌜ r ≡ 2 ^ bits ⌝ }
 {
@@ -36,7 +36,7 @@ fn halve<W: Weights>(b: usize, words: &mut [W::Value; 256]) -> (W::Value, W::Val
 }
 
 /// Folds the words of so many bits, from the highest bit down.
-pub fn fold<W: Weights>(
+pub(crate) fn fold<W: Weights>(
     bits: usize,
     words: &mut [W::Value; 256],
     zeros: &mut [W::Value; 8],

@@ -10,7 +10,7 @@ use paths::Trellis;
 use paths::Weights;
 
 // One entry: over every state, a column's entry chained with a metastage's.
-pub fn dot<W: Weights>(
+pub(crate) fn dot<W: Weights>(
     table: &[W::Value],
     from: usize,
     meta: usize,
@@ -29,7 +29,7 @@ pub fn dot<W: Weights>(
 }
 
 // A whole column, from its neighbour and the metastage between them.
-pub fn column<W: Weights>(
+pub(crate) fn column<W: Weights>(
     table: &mut [W::Value],
     from: usize,
     meta: usize,
@@ -49,7 +49,7 @@ pub fn column<W: Weights>(
 }
 
 // The column before the first stage.
-pub fn start<T: Trellis, W: Weights>(t: &T, table: &mut [W::Value], to: usize)
+pub(crate) fn start<T: Trellis, W: Weights>(t: &T, table: &mut [W::Value], to: usize)
     requires { ⌜ to + states ≤ length (now table) ⌝ }
     ensures kept { λ _. ⌜ Kept ops to states (now (table .entry)) (now (table .exit)) ⌝ }
     ensures made { λ _. ⌜ ((s : ℕ) → s < states → getD (now (table .exit)) (to + s) (ops .none) ≡ cond (meaning (now (t .entry)) .first s) (ops .unit) (ops .none)) ⌝ }

@@ -13,7 +13,7 @@ use paths::Trellis;
 use paths::Weights;
 
 // The same numbers in another place.
-pub fn copy<W: Weights>(table: &mut [W::Value], from: usize, to: usize, many: usize)
+pub(crate) fn copy<W: Weights>(table: &mut [W::Value], from: usize, to: usize, many: usize)
     requires room { ⌜ (from + many ≤ length (now table)) × (to + many ≤ length (now table)) ⌝ }
     requires apart { ⌜ (from + many ≤ to) ⊎ (to + many ≤ from) ⌝ }
     ensures kept { λ _. ⌜ Kept ops to many (now (table .entry)) (now (table .exit)) ⌝ }
@@ -25,7 +25,7 @@ pub fn copy<W: Weights>(table: &mut [W::Value], from: usize, to: usize, many: us
 }
 
 // Two neighbouring metastages made one, row by row as columns are made.
-pub fn product<W: Weights>(
+pub(crate) fn product<W: Weights>(
     table: &mut [W::Value],
     left: usize,
     right: usize,

@@ -9,7 +9,7 @@ use paths::Trellis;
 use paths::Weights;
 
 // Lays none into `many` places.
-pub fn clear<W: Weights>(table: &mut [W::Value], start: usize, many: usize)
+pub(crate) fn clear<W: Weights>(table: &mut [W::Value], start: usize, many: usize)
     requires { ⌜ start + many ≤ length (now table) ⌝ }
     ensures kept { λ _. ⌜ Kept ops start many (now (table .entry)) (now (table .exit)) ⌝ }
     ensures clear { λ _. ⌜ ((i : ℕ) → i < many → getD (now (table .exit)) (start + i) (ops .none) ≡ ops .none) ⌝ }

@@ -20,7 +20,7 @@ fn double(slots: &mut [u8; 256], size: usize)
 }
 
 /// The slot of each word of `m` bits out of state 0.
-pub fn slot_table(m: usize) -> [u8; 256]
+pub(crate) fn slot_table(m: usize) -> [u8; 256]
     requires { ⌜ m ≤ 8 ⌝ }
     ensures { λ r. ⌜ ((w : ℕ) → w < 2 ^ m → getD r w 0 ≡ slot-of 0 w m) ⌝ }
 {

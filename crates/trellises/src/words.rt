@@ -7,7 +7,7 @@ ghost use Rattle.trellises.specs.Priors.{penalties};
 use super::priors::penalty;
 
 /// The penalties of the `m` bits of one word, whose priors stand from `at` on.
-pub fn word_penalty(priors: &[i16], at: usize, m: usize, word: usize) -> u32
+pub(crate) fn word_penalty(priors: &[i16], at: usize, m: usize, word: usize) -> u32
     requires { ⌜ m ≤ 8 ⌝ ∗ ⌜ at + m ≤ length (now priors) ⌝ }
     ensures { λ r. ⌜ r ≡ penalties (now (priors .entry)) at word m ⌝ }
 {
@@ -30,7 +30,7 @@ fn double(out: &mut [u32; 512], size: usize, zero: u32, one: u32)
 }
 
 /// The penalties of every word of `m` bits: first those of the word of zeros, then one sum for each other word.
-pub fn word_penalties(priors: &[i16], at: usize, m: usize, out: &mut [u32; 512])
+pub(crate) fn word_penalties(priors: &[i16], at: usize, m: usize, out: &mut [u32; 512])
     requires { ⌜ m ≤ 8 ⌝ ∗ ⌜ at + m ≤ length (now priors) ⌝ }
     ensures { λ _. ⌜ ((w : ℕ) → w < 2 ^ m → getD (now (out .exit)) w 0 ≡ penalties (now (priors .entry)) at w m) ⌝ }
 {
