@@ -74,13 +74,14 @@ fn pairs<W: Weights>(table: &mut [W::Value], from: usize, to: usize, many: usize
     }
 }
 
-/// Lays level after level behind the metastages of the stages, until one is left. Answers the level of that one.
+/// Lays level after level behind the metastages of the stages, until one is left. Answers the level of that one, the first with one.
 pub fn levels<T: Trellis, W: Semiring>(t: &T, table: &mut [W::Value], base: usize) -> usize
     requires room { ⌜ base + levels-room states (meaning (now t) .stages) ≤ length (now table) ⌝ }
     requires stages { ⌜ Stages (W·Weights .ops) states (meaning (now t)) base (now table) ⌝ }
     ensures kept { λ r. ⌜ ((p : ℕ) → Beside (base + meaning (now (t .entry)) .stages * (states * states)) (metastage-at base states (meaning (now (t .entry)) .stages) (r + 1) 0) p → getD (now (table .exit)) p (W·Weights .ops .none) ≡ getD (now (table .entry)) p (W·Weights .ops .none)) ⌝ }
     ensures few { λ r. ⌜ r ≤ 14 ⌝ }
     ensures one { λ r. ⌜ level-size (meaning (now (t .entry)) .stages) r ≡ 1 ⌝ }
+    ensures first { λ r. ⌜ ((l : ℕ) → l < r → 1 < level-size (meaning (now (t .entry)) .stages) l) ⌝ }
     ensures made { λ r. ⌜ Levels (W·Weights .ops) states (meaning (now (t .entry))) base r (now (table .exit)) ⌝ }
 {
     let states = T::state_count();

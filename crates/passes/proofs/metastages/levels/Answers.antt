@@ -1,3 +1,4 @@
+use borrow.Author.Count.{below-more}
 use native.Mathlib.Omega.{arith}
 use native.Mathlib.Nat.{zero-mul, add-mul}
 use native.Mathlib.Numerals.{add-one}
@@ -28,7 +29,7 @@ loop-many-holds g c =
     let first : Level o w m (c .args .base) 0 n tb = first-level (g .W·Semiring·met .laws) w m (c .args .base) tb (c .pre .stages) in (
       (λ p h. refl),
       omega arith,
-      (omega arith, omega arith),
+      (omega arith, omega arith, λ i h. absurd (omega arith)),
       omega arith,
       λ i h. let e : i ≡ 0 = omega arith in subst (λ a. Level o w m (c .args .base) a (level-size n a) tb) (sym e) (λ j s t l. first j s t (omega arith)),
     )
@@ -123,7 +124,11 @@ loop-many-again g c =
     let last : Level o w m base (suc l) (level-size n (suc l)) new = next-level laws w m base law old new l from to many is at (omega arith) was made odd in (
       (λ p h. c .pairs .ensures .kept p (⊎-elim (λ l. inl (omega arith)) (λ l. inr (omega arith)) h) ∙ c .loop-many .inv .0 p (⊎-elim (λ l. inl l) (λ l. inr (omega arith)) h)),
       sz ∙ ap (level-size n) up,
-      (omega arith, (let d = below-fourteen n l few (omega arith) in omega arith)),
+      (
+        omega arith,
+        (let d = below-fourteen n l few (omega arith) in omega arith),
+        below-more (λ i. 1 < level-size n i) l (c .loop-many .inv .2 .2) (omega arith),
+      ),
       (let z : to ≡ base + level-start n (suc l) * (w * w) = omega arith in z) ∙ ap (λ a. base + level-start n a * (w * w)) up,
       λ i h. ⊎-elim
           (λ before. let u = room-under n i l (w * w) (omega arith) in level-kept o w m base old new i (level-size n i) to (c .loop-many .inv .4 i (omega arith)) (omega arith) (λ p k. c .pairs .ensures .kept p (inl k)))
@@ -146,5 +151,6 @@ returns g c =
       kept = λ p h. c .loop-many .inv .0 p (⊎-elim (λ l. inl l) (λ l. inr (omega arith)) h);
       few = c .loop-many .inv .2 .1;
       one = omega arith;
+      first = c .loop-many .inv .2 .2;
       made = c .loop-many .inv .4;
     }

@@ -1,5 +1,5 @@
 use mathlib.Core.Path.{_≡_}
-use Prim.Native.Nat.{ℕ, _+_, _*_, _≤_}
+use Prim.Native.Nat.{ℕ, _+_, _*_, _<_, _≤_}
 use lib.ListN.{getD}
 use Rattle.paths.specs.Metastages.{level-size, level-start}
 use Rattle.passes.specs.Tables.{Beside}
@@ -13,7 +13,7 @@ Inv-loop-many g l =
     let m = g .T·Trellis .meaning (l .t) in
     ((p : ℕ) → Beside (l .base + m .stages * (w * w)) (l .from + l .many * (w * w)) p → getD (l .table) p (o .none) ≡ getD (l .entry .table) p (o .none))
     × (l .many ≡ level-size (m .stages) (l .level))
-    × ((1 ≤ l .many) × (l .level ≤ 14))
+    × ((1 ≤ l .many) × (l .level ≤ 14) × ((i : ℕ) → i < l .level → 1 < level-size (m .stages) i))
     × (l .from ≡ l .base + level-start (m .stages) (l .level) * (w * w))
     × Levels o w m (l .base) (l .level) (l .table)
 

@@ -1,0 +1,5 @@
+pub mod Told
+pub mod Bounds
+pub mod Columns
+pub mod Offers
+pub mod Stages

@@ -1,0 +1,5 @@
+pub mod Ranges
+pub mod LastLevel
+pub mod Entries
+pub mod Kept
+pub mod Behind
