@@ -68,15 +68,18 @@ void plain_inner(const uint8_t *rows, const int16_t *priors, int m, int n, plain
         edges[i].to = acc;
         edges[i].slot = slot;
     }
-    for (int k = 0; k < n; k++)
-        for (int i = 0; i < count; i++) {
-            int32_t c = rows[k * slots + edges[i].slot];
-            for (int b = 0; b < m; b++) {
-                int16_t prior = priors[k * m + b];
-                c += edges[i].word >> b & 1 ? one_cost(prior) : zero_cost(prior);
+    for (int k = 0; k < n; k++) {
+        int32_t words[256] = {0};
+        for (int b = 0; b < m; b++) {
+            int32_t z = zero_cost(priors[k * m + b]), o = one_cost(priors[k * m + b]);
+            for (int w = 0; w < 1 << b; w++) {
+                words[w + (1 << b)] = words[w] + o;
+                words[w] += z;
             }
-            room->costs[k * count + i] = c;
         }
+        for (int i = 0; i < count; i++)
+            room->costs[k * count + i] = rows[k * slots + edges[i].slot] + words[edges[i].word];
+    }
     pass(edges, count, 2, n, m, room->costs, room->forward, room->backward, 0, room->zeros, room->ones);
     for (int j = 0; j < n * m; j++) out[j] = (int16_t)hold(room->zeros[j] - room->ones[j] - priors[j]);
 }

@@ -33,14 +33,26 @@ fn narrow(r: i32) -> i16 {
 
 /// The inner extrinsics of n symbols of m bits; false where a size or a length does not fit.
 #[unsafe(no_mangle)]
-pub extern "C" fn lochsaucer_inner<'x>(way: u8, m: usize, n: usize, rows: &'x [u8], priors: &'x [i16], table: &mut [u32], out: &mut [i16]) -> bool {
+pub extern "C" fn lochsaucer_inner<'x>(
+    way: u8,
+    m: usize,
+    n: usize,
+    rows: &'x [u8],
+    priors: &'x [i16],
+    table: &mut [u32],
+    out: &mut [i16],
+) -> bool {
     let Some(way) = Way::numbered(way) else {
         return false;
     };
     if m < 1 || m > 8 || n < 1 || n > 16384 {
         return false;
     }
-    if rows.len() < n * (1 << m) || priors.len() < n * m || out.len() < n * m || table.len() < 12 * n + 60 {
+    if rows.len() < n * (1 << m)
+        || priors.len() < n * m
+        || out.len() < n * m
+        || table.len() < 12 * n + 60
+    {
         return false;
     }
     let t = Inner::new(m, n, rows, priors);
@@ -56,7 +68,14 @@ pub extern "C" fn lochsaucer_inner<'x>(way: u8, m: usize, n: usize, rows: &'x [u
 
 /// The outer extrinsics of n data bits, and the reliability of each data bit, 0 where it is forced; false where a length does not fit.
 #[unsafe(no_mangle)]
-pub extern "C" fn lochsaucer_outer(way: u8, n: usize, priors: &[i16], table: &mut [u32], out: &mut [i16], found: &mut [i16]) -> bool {
+pub extern "C" fn lochsaucer_outer(
+    way: u8,
+    n: usize,
+    priors: &[i16],
+    table: &mut [u32],
+    out: &mut [i16],
+    found: &mut [i16],
+) -> bool {
     let Some(way) = Way::numbered(way) else {
         return false;
     };

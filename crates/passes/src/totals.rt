@@ -30,7 +30,11 @@ fn last_states<T: Trellis, W: Weights>(t: &T, table: &[W::Value], at: usize) -> 
 }
 
 // The join of a metastage's entries from first to last states.
-pub(crate) fn first_to_last<T: Trellis, W: Weights>(t: &T, table: &[W::Value], at: usize) -> W::Value
+pub(crate) fn first_to_last<T: Trellis, W: Weights>(
+    t: &T,
+    table: &[W::Value],
+    at: usize,
+) -> W::Value
     requires { ⌜ at + states * states ≤ length (now table) ⌝ }
     ensures { λ r. ⌜ r ≡ from-first ops states (meaning (now (t .entry))) (now (table .entry)) at ⌝ }
 {

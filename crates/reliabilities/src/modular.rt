@@ -18,7 +18,12 @@ fn widened(r: Option<i16>) -> Option<i32>
 }
 
 /// From the numbers modulo 65,536 that stand for these costs.
-pub(crate) fn from_modulo(bits: usize, zeros: &[u32; 8], ones: &[u32; 8], out: &mut [Option<i32>; 8])
+pub(crate) fn from_modulo(
+    bits: usize,
+    zeros: &[u32; 8],
+    ones: &[u32; 8],
+    out: &mut [Option<i32>; 8],
+)
     requires { ⌜ bits ≤ 8 ⌝ }
     ensures { λ _. ⌜ ((b : ℕ) → b < bits → getD (now (out .exit)) b None ≡ reliability-modulo (getD (now (zeros .entry)) b 65536) (getD (now (ones .entry)) b 65536)) ⌝ }
 {

@@ -19,7 +19,14 @@ use ways::Way;
 
 /// The reliability of every bit of stage `k`, from the columns that `ways::work` left in the table: the same numbers in every
 /// way, the least cost over all paths with the bit 0 less that with the bit 1, or none where the bit is forced.
-pub fn stage_reliabilities<T: Trellis>(way: Way, t: &T, k: usize, table: &[u32], room: &mut Room, out: &mut [Option<i32>; 8])
+pub fn stage_reliabilities<T: Trellis>(
+    way: Way,
+    t: &T,
+    k: usize,
+    table: &[u32],
+    room: &mut Room,
+    out: &mut [Option<i32>; 8],
+)
     requires stage { ⌜ k < meaning (now t) .stages ⌝ }
     requires long { ⌜ columns-size states (meaning (now t) .stages) + columns-size states (meaning (now t) .stages) ≤ length (now table) ⌝ }
     requires worked { ⌜ ((p : ℕ) → p < columns-size states (meaning (now t) .stages) + columns-size states (meaning (now t) .stages) → getD (now table) p 0 ≡ work-entry way states (meaning (now t)) p) ⌝ }
