@@ -10,13 +10,14 @@
 bool lochsaucer_inner(uint8_t way, size_t m, size_t n, const uint8_t *rows, size_t rows_len, const int16_t *priors, size_t priors_len,
                       uint32_t *work, size_t work_len, int16_t *out, size_t out_len);
 bool lochsaucer_outer(uint8_t way, size_t n, const int16_t *priors, size_t priors_len, uint32_t *work, size_t work_len, int16_t *out,
-                      size_t out_len, int16_t *data, size_t data_len);
+                      size_t out_len, int16_t *data, size_t data_len, uint8_t *decided, size_t decided_len);
 
 enum { P = 942, M_BITS = 6, K = 8 * P + 24, N = 2 * K, SYMBOLS = N / M_BITS, SLOTS = 1 << M_BITS, WORK = 40 * K + 256, TURNS = 101 };
 
 static uint8_t rows[SYMBOLS * SLOTS];
 static int16_t inner_priors[N], outer_priors[N], ours[N], theirs[N], our_data[K], their_data[K];
 static uint32_t work[WORK];
+static uint8_t decided[K];
 static plain_room room;
 static uint64_t state = 88172645463325252u;
 
@@ -61,7 +62,7 @@ int main(void) {
             double t2 = now();
             same &= a && !memcmp(ours, theirs, sizeof ours);
             double t3 = now();
-            bool b = lochsaucer_outer(way, K, outer_priors, N, work, WORK, ours, N, our_data, K);
+            bool b = lochsaucer_outer(way, K, outer_priors, N, work, WORK, ours, N, our_data, K, decided, K);
             double t4 = now();
             plain_outer(outer_priors, K, &room, theirs, their_data);
             double t5 = now();

@@ -16,20 +16,20 @@ use paths::Trellis;
 
 /// `n` symbols of `m` interleaved bits: a row of slot costs for each symbol, and a prior for each bit.
 #[derive(Drop)]
-pub struct Inner<'a> {
+pub struct Inner<'a, 'b> {
     pub m: usize,
     pub n: usize,
     pub rows: &'a [u8],
-    pub priors: &'a [i16],
+    pub priors: &'b [i16],
     slots: [u8; 256],
     ghost sizes: { (1 ≤ m) × (m ≤ 8) × (1 ≤ n) × (n ≤ 16384) },
     ghost there: { (n * 2 ^ m ≤ length (now rows)) × (n * m ≤ length (now priors)) },
     ghost table: { (w : ℕ) → w < 2 ^ m → getD slots w 0 ≡ slot-of 0 w m },
 }
 
-impl<'a> Inner<'a> {
+impl<'a, 'b> Inner<'a, 'b> {
     /// The trellis of these rows and priors.
-    pub fn new(m: usize, n: usize, rows: &'a [u8], priors: &'a [i16]) -> Inner<'a>
+    pub fn new(m: usize, n: usize, rows: &'a [u8], priors: &'b [i16]) -> Inner<'a, 'b>
         requires sizes { ⌜ (1 ≤ m) × (m ≤ 8) × (1 ≤ n) × (n ≤ 16384) ⌝ }
         requires there { ⌜ (n * 2 ^ m ≤ length (now rows)) × (n * m ≤ length (now priors)) ⌝ }
         ensures numbers { λ r. ⌜ (r .m ≡ m) × (r .n ≡ n) ⌝ }
@@ -86,7 +86,7 @@ impl<'a> Inner<'a> {
     }
 }
 
-pub impl<'a> Trellis for Inner<'a> as InnerTrellis {
+pub impl<'a, 'b> Trellis for Inner<'a, 'b> as InnerTrellis {
     const STATES: usize = 2;
 
     const CEILING: u32 = 4343;

@@ -1,0 +1,2 @@
+pub mod InnerPass
+pub mod Told

@@ -1,0 +1,2 @@
+pub mod OuterPass
+pub mod Read
