@@ -1,5 +1,7 @@
 //! One inner and one outer pass, for a benchmark in C to call.
 
+#![tactic(auto)]
+
 ghost use Rattle.std.specs.Prelude.{◌≡◌, false};
 
 use inner_pass::inner_pass;

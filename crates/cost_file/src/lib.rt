@@ -1,5 +1,7 @@
 //! The cost file: a plan, the slot costs of each symbol and perhaps the payload, each a record with a check.
 
+#![tactic(auto)]
+
 mod faults;
 mod judging;
 mod layout;

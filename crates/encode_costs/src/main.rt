@@ -3,6 +3,8 @@
 //! Encodes the payload on standard input, lays out the cost file of its block without noise, reads
 //! that file back and prints what it did. With FILE it also writes the file there.
 
+#![tactic(auto)]
+
 mod block;
 mod request;
 

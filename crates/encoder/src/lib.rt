@@ -1,5 +1,7 @@
 //! The encoder: a payload's way to the slots of its symbols, and the costs of a block without noise.
 
+#![tactic(auto)]
+
 mod bits;
 mod block;
 mod clean;

@@ -1,5 +1,7 @@
 //! The worked examples of docs/, proved of the definitions.
 
+#![tactic(auto)]
+
 ghost use Rattle.examples.specs.Examples.{WorkedExamples};
 
 /// Every worked example holds.

@@ -1,5 +1,7 @@
 //! One inner pass: what is sent on about every interleaved bit of a block.
 
+#![tactic(auto)]
+
 ghost use Rattle.std.specs.Prelude.{◌≡◌, ◌+◌, ◌*◌, ◌^◌, ◌≤◌, ◌++◌, map, length, take, drop, pos, None, slice_index_or};
 ghost use Rattle.std.specs.List.{range_with_len};
 ghost use Rattle.trellises.specs.Inner.{inner};

@@ -1,5 +1,7 @@
 //! The least cost in numbers modulo 65,536, and the spread bound that makes them suffice.
 
+#![tactic(auto)]
+
 mod cost;
 mod laws;
 mod modular;

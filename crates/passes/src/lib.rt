@@ -1,5 +1,7 @@
 //! Passes over any trellis with any weights: columns, metastages and totals in one lent table.
 
+#![tactic(auto)]
+
 mod columns;
 mod metastages;
 mod orders;

@@ -1,5 +1,7 @@
 //! Trellises, semirings and paths: what every pass is measured by.
 
+#![tactic(auto)]
+
 mod edges;
 mod laws;
 mod least;

@@ -1,5 +1,7 @@
 //! The plan of a block: its numbers, the questions that a plan has to pass, and the interleaver.
 
+#![tactic(auto)]
+
 mod accepted;
 mod divisor;
 mod refusals;

@@ -1,6 +1,8 @@
 //! Polynomials over the two-element field, and the check of a string of bytes: its remainder by
 //! z^22 + z^5 + z^4 + z^3 + 1.
 
+#![tactic(auto)]
+
 ghost use Rattle.std.specs.Prelude.{◌≡◌, ℕ, ◌^◌, ◌<◌, Bool, List, [], ◌∷◌, ◌++◌};
 ghost use Rattle.polynomial.specs.Polynomials.{Division, remainder, value};
 ghost use Rattle.polynomial.specs.Bytes.{check_of, ListsChecks, Checks};

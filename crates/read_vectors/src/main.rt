@@ -1,5 +1,7 @@
 //! Reads cost files that were made elsewhere, and prints of each that it is accepted or its fault.
 
+#![tactic(auto)]
+
 use cost_file::open_within;
 use std::fs;
 

@@ -1,5 +1,7 @@
 //! The reliability of every bit of a stage's word, from columns of least costs and from columns of numbers modulo 65,536.
 
+#![tactic(auto)]
+
 mod bits;
 mod costs;
 mod modular;

@@ -1,5 +1,7 @@
 //! What holds of every run, as functions whose contracts are the theorems.
 
+#![tactic(auto)]
+
 ghost use Rattle.run_laws.specs.Laws.{WaysUntold, NothingComesBack};
 
 /// No way can be told from another but by the work table.

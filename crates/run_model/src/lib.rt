@@ -1,5 +1,7 @@
 //! The calls of a run, their answers, and the model that every run is measured by.
 
+#![tactic(auto)]
+
 mod answers;
 mod calls;
 mod kinds;

@@ -1,5 +1,7 @@
 //! What the calls of a run do with single tables.
 
+#![tactic(auto)]
+
 mod bits;
 mod fronts;
 mod interleaving;

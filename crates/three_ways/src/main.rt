@@ -1,5 +1,7 @@
 //! Works a small inner trellis in all three ways and by several groupings, prints what each leaves, and finds that they agree.
 
+#![tactic(auto)]
+
 mod groupings;
 mod passes_of;
 

@@ -1,5 +1,7 @@
 //! The trellises of the block: the inner one of symbols, the outer one of the convolutional code, and any one read backwards.
 
+#![tactic(auto)]
+
 mod forced;
 mod inner;
 mod outer;

@@ -1,5 +1,7 @@
 //! The three ways of working a pass.
 
+#![tactic(auto)]
+
 mod names;
 mod tables;
 
