@@ -25,10 +25,10 @@ pub fn marginals<T: Trellis, W: Weights>(
     zeros: &mut [W::Value; 8],
     ones: &mut [W::Value; 8],
 )
-    requires stage { k < (meaning t.now).stages }
-    requires columns { (before + states ≤ length table.now) × (after + states ≤ length table.now) }
-    ensures zero { (b : ℕ) → b < bits t.now → Joins ops (candidate ops (column_at ops table.now before) (column_at ops table.now after) ((meaning t.now).edges k)) (edges_with ((meaning t.now).edges k) b 0) (slice_index_or zeros.new b ops.none) }
-    ensures one { (b : ℕ) → b < bits t.now → Joins ops (candidate ops (column_at ops table.now before) (column_at ops table.now after) ((meaning t.now).edges k)) (edges_with ((meaning t.now).edges k) b 1) (slice_index_or ones.new b ops.none) }
+    requires stage { k < (T.meaning t.now).stages }
+    requires columns { (before + T.states ≤ length table.now) × (after + T.states ≤ length table.now) }
+    ensures zero { (b : ℕ) → b < T.bits t.now → Joins W.ops (candidate W.ops (column_at W.ops table.now before) (column_at W.ops table.now after) ((T.meaning t.now).edges k)) (edges_with ((T.meaning t.now).edges k) b 0) (slice_index_or zeros.new b W.ops.none) }
+    ensures one { (b : ℕ) → b < T.bits t.now → Joins W.ops (candidate W.ops (column_at W.ops table.now before) (column_at W.ops table.now after) ((T.meaning t.now).edges k)) (edges_with ((T.meaning t.now).edges k) b 1) (slice_index_or ones.new b W.ops.none) }
 {
     let bits = t.bits();
     lay_frame::<W>(table, before, after, T::state_count(), frame);
@@ -51,12 +51,12 @@ pub fn bit_joins<T: Trellis, W: Semiring>(
     zeros: &mut [W::Value; 8],
     ones: &mut [W::Value; 8],
 )
-    requires stage { k < (meaning t.now).stages }
-    requires columns { (before + states ≤ length table.now) × (after + states ≤ length table.now) }
-    requires forth { (s : ℕ) → s < states → slice_index_or table.now (before + s) W.Weights.ops.none ≡ forward W.Weights.ops states (meaning t.now) k s }
-    requires back { (s : ℕ) → s < states → slice_index_or table.now (after + s) W.Weights.ops.none ≡ backward W.Weights.ops states (meaning t.now) (suc k) s }
-    ensures zero { (b : ℕ) → b < bits t.now → slice_index_or zeros.new b W.Weights.ops.none ≡ path_join W.Weights.ops (paths_with states (meaning t.now) k b 0) }
-    ensures one { (b : ℕ) → b < bits t.now → slice_index_or ones.new b W.Weights.ops.none ≡ path_join W.Weights.ops (paths_with states (meaning t.now) k b 1) }
+    requires stage { k < (T.meaning t.now).stages }
+    requires columns { (before + T.states ≤ length table.now) × (after + T.states ≤ length table.now) }
+    requires forth { (s : ℕ) → s < T.states → slice_index_or table.now (before + s) W.Weights.ops.none ≡ forward W.Weights.ops T.states (T.meaning t.now) k s }
+    requires back { (s : ℕ) → s < T.states → slice_index_or table.now (after + s) W.Weights.ops.none ≡ backward W.Weights.ops T.states (T.meaning t.now) (suc k) s }
+    ensures zero { (b : ℕ) → b < T.bits t.now → slice_index_or zeros.new b W.Weights.ops.none ≡ path_join W.Weights.ops (paths_with T.states (T.meaning t.now) k b 0) }
+    ensures one { (b : ℕ) → b < T.bits t.now → slice_index_or ones.new b W.Weights.ops.none ≡ path_join W.Weights.ops (paths_with T.states (T.meaning t.now) k b 1) }
 {
     marginals::<T, W>(t, k, table, before, after, costs, frame, words, zeros, ones);
 }

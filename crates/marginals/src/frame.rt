@@ -17,8 +17,8 @@ fn lay_row<W: Weights>(
 )
     requires columns { (from < length table.now) × (after + states ≤ length table.now) }
     requires room { row + states ≤ 256 }
-    ensures same { (p : ℕ) → p < row → slice_index_or frame.new p ops.none ≡ slice_index_or frame.old p ops.none }
-    ensures laid { (t : ℕ) → t < states → slice_index_or frame.new (row + t) ops.none ≡ ops.chain (slice_index_or table.now from ops.none) (column_at ops table.now after t) }
+    ensures same { (p : ℕ) → p < row → slice_index_or frame.new p W.ops.none ≡ slice_index_or frame.old p W.ops.none }
+    ensures laid { (t : ℕ) → t < states → slice_index_or frame.new (row + t) W.ops.none ≡ W.ops.chain (slice_index_or table.now from W.ops.none) (column_at W.ops table.now after t) }
 {
     let x = table[from];
     for t in 0..states {
@@ -36,7 +36,7 @@ pub(crate) fn lay_frame<W: Weights>(
 )
     requires few { states ≤ 16 }
     requires columns { (before + states ≤ length table.now) × (after + states ≤ length table.now) }
-    ensures { (s t : ℕ) → s < states → t < states → slice_index_or frame.new (s * states + t) ops.none ≡ ops.chain (column_at ops table.now before s) (column_at ops table.now after t) }
+    ensures { (s t : ℕ) → s < states → t < states → slice_index_or frame.new (s * states + t) W.ops.none ≡ W.ops.chain (column_at W.ops table.now before s) (column_at W.ops table.now after t) }
 {
     for s in 0..states {
         lay_row::<W>(table, before + s, after, states, s * states, frame);
@@ -46,7 +46,7 @@ pub(crate) fn lay_frame<W: Weights>(
 /// Sets every word of so many bits to the value of no path.
 pub(crate) fn clear<W: Weights>(bits: usize, words: &mut [W::Value; 256])
     requires { bits ≤ 8 }
-    ensures { (w : ℕ) → w < 2 ^ bits → slice_index_or words.new w ops.none ≡ ops.none }
+    ensures { (w : ℕ) → w < 2 ^ bits → slice_index_or words.new w W.ops.none ≡ W.ops.none }
 {
     for w in 0..word_count(bits) {
         words[w] = W::none();

@@ -15,7 +15,7 @@ fn offer<W: Weights>(
     cost: u32,
 ) -> W::Value
     requires { (states ≤ 16) × (from < states) × (to < states) }
-    ensures { result ≡ ops.chain (slice_index_or frame.now (from * states + to) ops.none) (ops.value cost) }
+    ensures { result ≡ W.ops.chain (slice_index_or frame.now (from * states + to) W.ops.none) (W.ops.value cost) }
 {
     W::chain(frame[from * states + to], W::value(cost))
 }
@@ -28,9 +28,9 @@ pub(crate) fn gather<T: Trellis, W: Weights>(
     costs: &mut [u32; 512],
     words: &mut [W::Value; 256],
 )
-    requires stage { k < (meaning t.now).stages }
-    requires clear { (w : ℕ) → w < 2 ^ bits t.now → slice_index_or words.old w ops.none ≡ ops.none }
-    ensures { (w : ℕ) → w < 2 ^ bits t.now → Joins ops (framed ops states frame.now ((meaning t.now).edges k)) (word_is ((meaning t.now).edges k) w) (slice_index_or words.new w ops.none) }
+    requires stage { k < (T.meaning t.now).stages }
+    requires clear { (w : ℕ) → w < 2 ^ T.bits t.now → slice_index_or words.old w W.ops.none ≡ W.ops.none }
+    ensures { (w : ℕ) → w < 2 ^ T.bits t.now → Joins W.ops (framed W.ops T.states frame.now ((T.meaning t.now).edges k)) (word_is ((T.meaning t.now).edges k) w) (slice_index_or words.new w W.ops.none) }
 {
     let states = T::state_count();
     t.costs(k, costs);

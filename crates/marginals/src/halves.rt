@@ -17,9 +17,9 @@ pub(crate) fn word_count(bits: usize) -> usize
 // Takes the words that differ in bit `b` alone together, and joins all those without and all those with it.
 fn halve<W: Weights>(b: usize, words: &mut [W::Value; 256]) -> (W::Value, W::Value)
     requires { b < 8 }
-    ensures zero { result.0 ≡ join_below ops (2 ^ b) (λ x. get_or words.old x ops.none) }
-    ensures one { result.1 ≡ join_below ops (2 ^ b) (λ x. get_or words.old (2 ^ b + x) ops.none) }
-    ensures after { (x : ℕ) → x < 2 ^ b → slice_index_or words.new x ops.none ≡ ops.join (slice_index_or words.old x ops.none) (slice_index_or words.old (2 ^ b + x) ops.none) }
+    ensures zero { result.0 ≡ join_below W.ops (2 ^ b) (λ x. get_or words.old x W.ops.none) }
+    ensures one { result.1 ≡ join_below W.ops (2 ^ b) (λ x. get_or words.old (2 ^ b + x) W.ops.none) }
+    ensures after { (x : ℕ) → x < 2 ^ b → slice_index_or words.new x W.ops.none ≡ W.ops.join (slice_index_or words.old x W.ops.none) (slice_index_or words.old (2 ^ b + x) W.ops.none) }
 {
     let half = word_count(b);
     let mut zero = W::none();
@@ -42,8 +42,8 @@ pub(crate) fn fold<W: Weights>(
     ones: &mut [W::Value; 8],
 )
     requires { bits ≤ 8 }
-    ensures zero { (b : ℕ) → b < bits → slice_index_or zeros.new b ops.none ≡ lower ops (held ops words.old) bits b }
-    ensures one { (b : ℕ) → b < bits → slice_index_or ones.new b ops.none ≡ upper ops (held ops words.old) bits b }
+    ensures zero { (b : ℕ) → b < bits → slice_index_or zeros.new b W.ops.none ≡ lower W.ops (held W.ops words.old) bits b }
+    ensures one { (b : ℕ) → b < bits → slice_index_or ones.new b W.ops.none ≡ upper W.ops (held W.ops words.old) bits b }
 {
     for b in (0..bits).rev() {
         let (zero, one) = halve::<W>(b, words);

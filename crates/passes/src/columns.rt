@@ -15,7 +15,7 @@ pub(crate) fn dot<W: Weights>(
 ) -> W::Value
     requires column { from + states ≤ length table.now }
     requires entries { (x : ℕ) → x < states → meta + x * row < length table.now }
-    ensures { result ≡ dotted ops states table.now from meta row }
+    ensures { result ≡ dotted W.ops states table.now from meta row }
 {
     let mut sum = W::none();
     for x in 0..states {
@@ -36,8 +36,8 @@ pub(crate) fn column<W: Weights>(
 )
     requires room { (from + states ≤ length table.old) × (to + states ≤ length table.old) × ((from + states ≤ to) ⊎ (to + states ≤ from)) }
     requires entries { (x y : ℕ) → x < states → y < states → (meta + y * col + x * row < length table.old) × Outside to states (meta + y * col + x * row) }
-    ensures kept { Kept ops to states table.old table.new }
-    ensures made { (y : ℕ) → y < states → slice_index_or table.new (to + y) ops.none ≡ dotted ops states table.old from (meta + y * col) row }
+    ensures kept { Kept W.ops to states table.old table.new }
+    ensures made { (y : ℕ) → y < states → slice_index_or table.new (to + y) W.ops.none ≡ dotted W.ops states table.old from (meta + y * col) row }
 {
     for y in 0..states {
         table[to + y] = dot::<W>(table, from, meta + y * col, row, states);
@@ -46,9 +46,9 @@ pub(crate) fn column<W: Weights>(
 
 // The column before the first stage.
 pub(crate) fn start<T: Trellis, W: Weights>(t: &T, table: &mut [W::Value], to: usize)
-    requires { to + states ≤ length table.old }
-    ensures kept { Kept ops to states table.old table.new }
-    ensures made { (s : ℕ) → s < states → slice_index_or table.new (to + s) ops.none ≡ (if (meaning t.now).first s then ops.unit else ops.none) }
+    requires { to + T.states ≤ length table.old }
+    ensures kept { Kept W.ops to T.states table.old table.new }
+    ensures made { (s : ℕ) → s < T.states → slice_index_or table.new (to + s) W.ops.none ≡ (if (T.meaning t.now).first s then W.ops.unit else W.ops.none) }
 {
     for s in 0..T::state_count() {
         table[to + s] = if t.first(s) { W::unit() } else { W::none() };
@@ -57,9 +57,9 @@ pub(crate) fn start<T: Trellis, W: Weights>(t: &T, table: &mut [W::Value], to: u
 
 // The column behind the last stage.
 fn finish<T: Trellis, W: Weights>(t: &T, table: &mut [W::Value], to: usize)
-    requires { to + states ≤ length table.old }
-    ensures kept { Kept ops to states table.old table.new }
-    ensures made { (s : ℕ) → s < states → slice_index_or table.new (to + s) ops.none ≡ (if (meaning t.now).last s then ops.unit else ops.none) }
+    requires { to + T.states ≤ length table.old }
+    ensures kept { Kept W.ops to T.states table.old table.new }
+    ensures made { (s : ℕ) → s < T.states → slice_index_or table.new (to + s) W.ops.none ≡ (if (T.meaning t.now).last s then W.ops.unit else W.ops.none) }
 {
     for s in 0..T::state_count() {
         table[to + s] = if t.last(s) { W::unit() } else { W::none() };
@@ -68,10 +68,10 @@ fn finish<T: Trellis, W: Weights>(t: &T, table: &mut [W::Value], to: usize)
 
 /// Lays the forward columns: entry s of column k joins what leads through the first `k` stages to s.
 pub fn forward<T: Trellis, W: Weights>(t: &T, table: &mut [W::Value], base: usize)
-    requires room { (columns_size states (meaning t.now).stages ≤ base) × (base + (meaning t.now).stages * (states * states) ≤ length table.old) }
-    requires stages { Stages ops states (meaning t.now) base table.old }
-    ensures kept { Kept ops 0 (columns_size states (meaning t.now).stages) table.old table.new }
-    ensures made { Forward ops states (meaning t.now) table.new }
+    requires room { (columns_size T.states (T.meaning t.now).stages ≤ base) × (base + (T.meaning t.now).stages * (T.states * T.states) ≤ length table.old) }
+    requires stages { Stages W.ops T.states (T.meaning t.now) base table.old }
+    ensures kept { Kept W.ops 0 (columns_size T.states (T.meaning t.now).stages) table.old table.new }
+    ensures made { Forward W.ops T.states (T.meaning t.now) table.new }
 {
     let states = T::state_count();
     let square = states * states;
@@ -86,10 +86,10 @@ pub fn forward<T: Trellis, W: Weights>(t: &T, table: &mut [W::Value], base: usiz
 /// Lays the backward columns behind the forward columns: entry s of column k joins what leads from s through the stages from `k` on.
 /// The same step as forward, with the metastage's rows and columns exchanged: the forward columns of the reversal.
 pub fn backward<T: Trellis, W: Weights>(t: &T, table: &mut [W::Value], base: usize)
-    requires room { (columns_size states (meaning t.now).stages + columns_size states (meaning t.now).stages ≤ base) × (base + (meaning t.now).stages * (states * states) ≤ length table.old) }
-    requires stages { Stages ops states (meaning t.now) base table.old }
-    ensures kept { Kept ops (columns_size states (meaning t.now).stages) (columns_size states (meaning t.now).stages) table.old table.new }
-    ensures made { Backward ops states (meaning t.now) table.new }
+    requires room { (columns_size T.states (T.meaning t.now).stages + columns_size T.states (T.meaning t.now).stages ≤ base) × (base + (T.meaning t.now).stages * (T.states * T.states) ≤ length table.old) }
+    requires stages { Stages W.ops T.states (T.meaning t.now) base table.old }
+    ensures kept { Kept W.ops (columns_size T.states (T.meaning t.now).stages) (columns_size T.states (T.meaning t.now).stages) table.old table.new }
+    ensures made { Backward W.ops T.states (T.meaning t.now) table.new }
 {
     let states = T::state_count();
     let square = states * states;

@@ -12,8 +12,8 @@ use paths::{Semiring, Trellis, Weights};
 pub(crate) fn copy<W: Weights>(table: &mut [W::Value], from: usize, to: usize, many: usize)
     requires room { (from + many ≤ length table.old) × (to + many ≤ length table.old) }
     requires apart { (from + many ≤ to) ⊎ (to + many ≤ from) }
-    ensures kept { Kept ops to many table.old table.new }
-    ensures same { (i : ℕ) → i < many → slice_index_or table.new (to + i) ops.none ≡ slice_index_or table.old (from + i) ops.none }
+    ensures kept { Kept W.ops to many table.old table.new }
+    ensures same { (i : ℕ) → i < many → slice_index_or table.new (to + i) W.ops.none ≡ slice_index_or table.old (from + i) W.ops.none }
 {
     for i in 0..many {
         table[to + i] = table[from + i];
@@ -30,8 +30,8 @@ pub(crate) fn product<W: Weights>(
 )
     requires room { (left + states * states ≤ length table.old) × (right + states * states ≤ length table.old) × (to + states * states ≤ length table.old) }
     requires apart { ((left + states * states ≤ to) ⊎ (to + states * states ≤ left)) × ((right + states * states ≤ to) ⊎ (to + states * states ≤ right)) }
-    ensures kept { Kept ops to (states * states) table.old table.new }
-    ensures made { (s t : ℕ) → s < states → t < states → slice_index_or table.new (to + (s * states + t)) ops.none ≡ dotted ops states table.old (left + s * states) (right + t) states }
+    ensures kept { Kept W.ops to (states * states) table.old table.new }
+    ensures made { (s t : ℕ) → s < states → t < states → slice_index_or table.new (to + (s * states + t)) W.ops.none ≡ dotted W.ops states table.old (left + s * states) (right + t) states }
 {
     for s in 0..states {
         column::<W>(
@@ -51,9 +51,9 @@ fn pairs<W: Weights>(table: &mut [W::Value], from: usize, to: usize, many: usize
     requires few { states ≤ 16 }
     requires room { to + (many + 1) / 2 * (states * states) ≤ length table.old }
     requires apart { from + many * (states * states) ≤ to }
-    ensures kept { Kept ops to ((many + 1) / 2 * (states * states)) table.old table.new }
-    ensures made { (j s t : ℕ) → j < many / 2 → s < states → t < states → slice_index_or table.new (to + j * (states * states) + (s * states + t)) ops.none ≡ dotted ops states table.old (from + 2 * j * (states * states) + s * states) (from + 2 * j * (states * states) + states * states + t) states }
-    ensures odd { many % 2 ≡ 1 → (i : ℕ) → i < states * states → slice_index_or table.new (to + many / 2 * (states * states) + i) ops.none ≡ slice_index_or table.old (from + (many - 1) * (states * states) + i) ops.none }
+    ensures kept { Kept W.ops to ((many + 1) / 2 * (states * states)) table.old table.new }
+    ensures made { (j s t : ℕ) → j < many / 2 → s < states → t < states → slice_index_or table.new (to + j * (states * states) + (s * states + t)) W.ops.none ≡ dotted W.ops states table.old (from + 2 * j * (states * states) + s * states) (from + 2 * j * (states * states) + states * states + t) states }
+    ensures odd { many % 2 ≡ 1 → (i : ℕ) → i < states * states → slice_index_or table.new (to + many / 2 * (states * states) + i) W.ops.none ≡ slice_index_or table.old (from + (many - 1) * (states * states) + i) W.ops.none }
 {
     let square = states * states;
     for j in 0..many / 2 {
@@ -72,13 +72,13 @@ fn pairs<W: Weights>(table: &mut [W::Value], from: usize, to: usize, many: usize
 
 /// Lays level after level behind the metastages of the stages, until one is left. Answers the level of that one, the first with one.
 pub fn levels<T: Trellis, W: Semiring>(t: &T, table: &mut [W::Value], base: usize) -> usize
-    requires room { base + levels_room states (meaning t.now).stages ≤ length table.old }
-    requires stages { Stages W.Weights.ops states (meaning t.now) base table.old }
-    ensures kept { (p : ℕ) → Beside (base + (meaning t.now).stages * (states * states)) (metastage_at base states (meaning t.now).stages (result + 1) 0) p → slice_index_or table.new p W.Weights.ops.none ≡ slice_index_or table.old p W.Weights.ops.none }
+    requires room { base + levels_room T.states (T.meaning t.now).stages ≤ length table.old }
+    requires stages { Stages W.Weights.ops T.states (T.meaning t.now) base table.old }
+    ensures kept { (p : ℕ) → Beside (base + (T.meaning t.now).stages * (T.states * T.states)) (metastage_at base T.states (T.meaning t.now).stages (result + 1) 0) p → slice_index_or table.new p W.Weights.ops.none ≡ slice_index_or table.old p W.Weights.ops.none }
     ensures few { result ≤ 14 }
-    ensures one { level_size (meaning t.now).stages result ≡ 1 }
-    ensures first { (l : ℕ) → l < result → 1 < level_size (meaning t.now).stages l }
-    ensures made { Levels W.Weights.ops states (meaning t.now) base result table.new }
+    ensures one { level_size (T.meaning t.now).stages result ≡ 1 }
+    ensures first { (l : ℕ) → l < result → 1 < level_size (T.meaning t.now).stages l }
+    ensures made { Levels W.Weights.ops T.states (T.meaning t.now) base result table.new }
 {
     let states = T::state_count();
     let square = states * states;

@@ -39,8 +39,8 @@ fn replace<W: Weights>(
     states: usize,
 )
     requires { (left + states * states ≤ right) × (right + states * states ≤ spare) × (spare + states * states ≤ length table.old) }
-    ensures kept { (p : ℕ) → p < spare → Outside left (states * states) p → slice_index_or table.new p ops.none ≡ slice_index_or table.old p ops.none }
-    ensures made { (s t : ℕ) → s < states → t < states → slice_index_or table.new (left + (s * states + t)) ops.none ≡ dotted ops states table.old (left + s * states) (right + t) states }
+    ensures kept { (p : ℕ) → p < spare → Outside left (states * states) p → slice_index_or table.new p W.ops.none ≡ slice_index_or table.old p W.ops.none }
+    ensures made { (s t : ℕ) → s < states → t < states → slice_index_or table.new (left + (s * states + t)) W.ops.none ≡ dotted W.ops states table.old (left + s * states) (right + t) states }
 {
     product::<W>(table, left, right, spare, states);
     copy::<W>(table, spare, left, states * states);
@@ -68,9 +68,9 @@ pub fn by_order<T: Trellis, W: Semiring>(
     table: &mut [W::Value],
     ends: &mut [usize],
 ) -> Option<W::Value>
-    requires table { (meaning t.now).stages * (states * states) + states * states ≤ length table.old }
-    requires ends { 2 * (meaning t.now).stages ≤ length ends.old }
-    ensures { result ≡ (if complete_order (meaning t.now).stages order.now then Some (path_join W.Weights.ops (paths states (meaning t.now))) else None) }
+    requires table { (T.meaning t.now).stages * (T.states * T.states) + T.states * T.states ≤ length table.old }
+    requires ends { 2 * (T.meaning t.now).stages ≤ length ends.old }
+    ensures { result ≡ (if complete_order (T.meaning t.now).stages order.now then Some (path_join W.Weights.ops (paths T.states (T.meaning t.now))) else None) }
 {
     let states = T::state_count();
     let square = states * states;

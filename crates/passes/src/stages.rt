@@ -9,8 +9,8 @@ use paths::{Trellis, Weights};
 // Lays none into `many` places.
 pub(crate) fn clear<W: Weights>(table: &mut [W::Value], start: usize, many: usize)
     requires { start + many ≤ length table.old }
-    ensures kept { Kept ops start many table.old table.new }
-    ensures clear { (i : ℕ) → i < many → slice_index_or table.new (start + i) ops.none ≡ ops.none }
+    ensures kept { Kept W.ops start many table.old table.new }
+    ensures clear { (i : ℕ) → i < many → slice_index_or table.new (start + i) W.ops.none ≡ W.ops.none }
 {
     for i in 0..many {
         table[start + i] = W::none();
@@ -20,7 +20,7 @@ pub(crate) fn clear<W: Weights>(table: &mut [W::Value], start: usize, many: usiz
 // Joins the value of a cost to an entry: one of several parallel edges.
 fn relax<W: Weights>(table: &mut [W::Value], to: usize, cost: u32)
     requires { to < length table.old }
-    ensures { table.new ≡ slice_set table.old to (ops.join (slice_index_or table.old to ops.none) (ops.value cost)) }
+    ensures { table.new ≡ slice_set table.old to (W.ops.join (slice_index_or table.old to W.ops.none) (W.ops.value cost)) }
 {
     table[to] = W::join(table[to], W::value(cost));
 }
@@ -33,10 +33,10 @@ fn lay_stage<T: Trellis, W: Weights>(
     table: &mut [W::Value],
     to: usize,
 )
-    requires stage { k < (meaning t.now).stages }
-    requires room { to + states * states ≤ length table.old }
-    ensures kept { Kept ops to (states * states) table.old table.new }
-    ensures made { (x y : ℕ) → x < states → y < states → slice_index_or table.new (to + (x * states + y)) ops.none ≡ parallel ops ((meaning t.now).edges k) x y }
+    requires stage { k < (T.meaning t.now).stages }
+    requires room { to + T.states * T.states ≤ length table.old }
+    ensures kept { Kept W.ops to (T.states * T.states) table.old table.new }
+    ensures made { (x y : ℕ) → x < T.states → y < T.states → slice_index_or table.new (to + (x * T.states + y)) W.ops.none ≡ parallel W.ops ((T.meaning t.now).edges k) x y }
 {
     let states = T::state_count();
     clear::<W>(table, to, states * states);
@@ -52,9 +52,9 @@ fn lay_stage<T: Trellis, W: Weights>(
 
 /// Lays the metastage of every stage, one after another from `base` on: entry x, y joins the parallel edges from x to y.
 pub fn lay_stages<T: Trellis, W: Weights>(t: &T, table: &mut [W::Value], base: usize)
-    requires { base + (meaning t.now).stages * (states * states) ≤ length table.old }
-    ensures kept { Kept ops base ((meaning t.now).stages * (states * states)) table.old table.new }
-    ensures made { Stages ops states (meaning t.now) base table.new }
+    requires { base + (T.meaning t.now).stages * (T.states * T.states) ≤ length table.old }
+    ensures kept { Kept W.ops base ((T.meaning t.now).stages * (T.states * T.states)) table.old table.new }
+    ensures made { Stages W.ops T.states (T.meaning t.now) base table.new }
 {
     let states = T::state_count();
     let square = states * states;

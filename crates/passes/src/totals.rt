@@ -14,8 +14,8 @@ use paths::{Semiring, Trellis, Weights};
 
 // The join of a column's entries in last states.
 fn last_states<T: Trellis, W: Weights>(t: &T, table: &[W::Value], at: usize) -> W::Value
-    requires { at + states ≤ length table.now }
-    ensures { result ≡ in_last ops states (meaning t.now) table.now at }
+    requires { at + T.states ≤ length table.now }
+    ensures { result ≡ in_last W.ops T.states (T.meaning t.now) table.now at }
 {
     let mut sum = W::none();
     for s in 0..T::state_count() {
@@ -31,8 +31,8 @@ pub(crate) fn first_to_last<T: Trellis, W: Weights>(
     table: &[W::Value],
     at: usize,
 ) -> W::Value
-    requires { at + states * states ≤ length table.now }
-    ensures { result ≡ from_first ops states (meaning t.now) table.now at }
+    requires { at + T.states * T.states ≤ length table.now }
+    ensures { result ≡ from_first W.ops T.states (T.meaning t.now) table.now at }
 {
     let states = T::state_count();
     let mut sum = W::none();
@@ -49,9 +49,9 @@ pub(crate) fn first_to_last<T: Trellis, W: Weights>(
 
 /// The join over all paths, from the forward columns: their last one, in last states.
 pub fn by_columns<T: Trellis, W: Semiring>(t: &T, table: &[W::Value]) -> W::Value
-    requires room { columns_size states (meaning t.now).stages ≤ length table.now }
-    requires made { Forward W.Weights.ops states (meaning t.now) table.now }
-    ensures { result ≡ path_join W.Weights.ops (paths states (meaning t.now)) }
+    requires room { columns_size T.states (T.meaning t.now).stages ≤ length table.now }
+    requires made { Forward W.Weights.ops T.states (T.meaning t.now) table.now }
+    ensures { result ≡ path_join W.Weights.ops (paths T.states (T.meaning t.now)) }
 {
     last_states::<T, W>(t, table, t.stages() * T::state_count())
 }
@@ -63,11 +63,11 @@ pub fn by_levels<T: Trellis, W: Semiring>(
     base: usize,
     level: usize,
 ) -> W::Value
-    requires room { base + levels_room states (meaning t.now).stages ≤ length table.now }
+    requires room { base + levels_room T.states (T.meaning t.now).stages ≤ length table.now }
     requires few { level ≤ 14 }
-    requires one { level_size (meaning t.now).stages level ≡ 1 }
-    requires made { Levels W.Weights.ops states (meaning t.now) base level table.now }
-    ensures { result ≡ path_join W.Weights.ops (paths states (meaning t.now)) }
+    requires one { level_size (T.meaning t.now).stages level ≡ 1 }
+    requires made { Levels W.Weights.ops T.states (T.meaning t.now) base level table.now }
+    ensures { result ≡ path_join W.Weights.ops (paths T.states (T.meaning t.now)) }
 {
     first_to_last::<T, W>(
         t,
@@ -79,7 +79,7 @@ pub fn by_levels<T: Trellis, W: Semiring>(
 // One edge: its start's entry chained with its value, joined to its end's entry.
 fn carry<W: Weights>(table: &mut [W::Value], from: usize, to: usize, cost: u32)
     requires { (from < length table.old) × (to < length table.old) }
-    ensures { table.new ≡ slice_set table.old to (ops.join (slice_index_or table.old to ops.none) (ops.chain (slice_index_or table.old from ops.none) (ops.value cost))) }
+    ensures { table.new ≡ slice_set table.old to (W.ops.join (slice_index_or table.old to W.ops.none) (W.ops.chain (slice_index_or table.old from W.ops.none) (W.ops.value cost))) }
 {
     let more = W::chain(table[from], W::value(cost));
     table[to] = W::join(table[to], more);
@@ -93,11 +93,11 @@ fn carry_stage<T: Trellis, W: Weights>(
     from: usize,
     to: usize,
 )
-    requires stage { k < (meaning t.now).stages }
-    requires room { (from + states ≤ length table.old) × (to + states ≤ length table.old) }
-    requires apart { (from + states ≤ to) ⊎ (to + states ≤ from) }
-    ensures kept { Kept ops to states table.old table.new }
-    ensures made { (s : ℕ) → s < states → slice_index_or table.new (to + s) ops.none ≡ by_edges ops table.old from ((meaning t.now).edges k) s }
+    requires stage { k < (T.meaning t.now).stages }
+    requires room { (from + T.states ≤ length table.old) × (to + T.states ≤ length table.old) }
+    requires apart { (from + T.states ≤ to) ⊎ (to + T.states ≤ from) }
+    ensures kept { Kept W.ops to T.states table.old table.new }
+    ensures made { (s : ℕ) → s < T.states → slice_index_or table.new (to + s) W.ops.none ≡ by_edges W.ops table.old from ((T.meaning t.now).edges k) s }
 {
     clear::<W>(table, to, T::state_count());
     let Some(count) = t.edge_count(k) else {
@@ -111,8 +111,8 @@ fn carry_stage<T: Trellis, W: Weights>(
 
 /// The join over all paths, by two columns in turn: no table of the block, each edge asked once.
 pub fn total<T: Trellis, W: Semiring>(t: &T, columns: &mut [W::Value]) -> W::Value
-    requires { states + states ≤ length columns.old }
-    ensures { result ≡ path_join W.Weights.ops (paths states (meaning t.now)) }
+    requires { T.states + T.states ≤ length columns.old }
+    ensures { result ≡ path_join W.Weights.ops (paths T.states (T.meaning t.now)) }
 {
     let states = T::state_count();
     start::<T, W>(t, columns, 0);

@@ -15,35 +15,35 @@ pub fn paths_hold() -> u8
 
 /// The columns that a pass computes are joins over walks.
 pub fn columns_hold<W: Weights>() -> u8
-    ensures { ColumnsAreJoins fine ops }
+    ensures { ColumnsAreJoins W.fine W.ops }
 {
     0
 }
 
 /// The paths with a test of one stage's edge are joined by the edges of that stage.
 pub fn marginals_hold<W: Weights>() -> u8
-    ensures { MarginalsAreJoins fine ops }
+    ensures { MarginalsAreJoins W.fine W.ops }
 {
     0
 }
 
 /// However neighbouring stages are made one, the last metastage joins all paths.
 pub fn groupings_hold<W: Weights>() -> u8
-    ensures { GroupingsAgree fine ops }
+    ensures { GroupingsAgree W.fine W.ops }
 {
     0
 }
 
 /// Two neighbouring metastages make one that joins the walks across both.
 pub fn products_hold<W: Weights>() -> u8
-    ensures { ProductsAreJoins fine ops }
+    ensures { ProductsAreJoins W.fine W.ops }
 {
     0
 }
 
 /// Joined in whatever order, the candidates with a bit are the join over all paths with that bit.
 pub fn bits_hold<W: Weights>() -> u8
-    ensures { BitsAreJoins fine ops }
+    ensures { BitsAreJoins W.fine W.ops }
 {
     0
 }

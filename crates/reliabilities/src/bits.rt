@@ -24,14 +24,14 @@ pub fn least_bits<T: Trellis>(
     room: &mut Room,
     out: &mut [Option<i32>; 8],
 )
-    requires stage { k < (meaning t.now).stages }
-    requires columns { (front + states ≤ length table.now) × (back + states ≤ length table.now) }
-    requires cheap { ceiling < 131072 }
-    requires forth { (s : ℕ) → s < states → slice_index table.now (front + s) ≡ path_join least (before states (meaning t.now) k s) }
-    requires onward { (s : ℕ) → s < states → slice_index table.now (back + s) ≡ path_join least (after (meaning t.now) (suc k) s) }
-    ensures told { (b : ℕ) → b < bits t.now → slice_index_or out.new b None ≡ reliability (path_join least (paths_with states (meaning t.now) k b 0)) (path_join least (paths_with states (meaning t.now) k b 1)) }
-    ensures bound { 1 ≤ reach → (b : ℕ) → b < bits t.now → Bounded ((2 * reach + 1) * ceiling) (slice_index_or out.new b None) }
-    ensures sixteen { 1 ≤ reach → (2 * reach + 1) * ceiling < 32768 → (b : ℕ) → b < bits t.now → Bounded 32767 (slice_index_or out.new b None) }
+    requires stage { k < (T.meaning t.now).stages }
+    requires columns { (front + T.states ≤ length table.now) × (back + T.states ≤ length table.now) }
+    requires cheap { T.ceiling < 131072 }
+    requires forth { (s : ℕ) → s < T.states → slice_index table.now (front + s) ≡ path_join least (before T.states (T.meaning t.now) k s) }
+    requires onward { (s : ℕ) → s < T.states → slice_index table.now (back + s) ≡ path_join least (after (T.meaning t.now) (suc k) s) }
+    ensures told { (b : ℕ) → b < T.bits t.now → slice_index_or out.new b None ≡ reliability (path_join least (paths_with T.states (T.meaning t.now) k b 0)) (path_join least (paths_with T.states (T.meaning t.now) k b 1)) }
+    ensures bound { 1 ≤ T.reach → (b : ℕ) → b < T.bits t.now → Bounded ((2 * T.reach + 1) * T.ceiling) (slice_index_or out.new b None) }
+    ensures sixteen { 1 ≤ T.reach → (2 * T.reach + 1) * T.ceiling < 32768 → (b : ℕ) → b < T.bits t.now → Bounded 32767 (slice_index_or out.new b None) }
 {
     bit_joins::<T, LeastCost>(
         t,
@@ -59,14 +59,14 @@ pub fn modulo_bits<T: Trellis>(
     room: &mut Room,
     out: &mut [Option<i32>; 8],
 )
-    requires stage { k < (meaning t.now).stages }
-    requires columns { (front + states ≤ length table.now) × (back + states ≤ length table.now) }
-    requires served { (1 ≤ reach) × ((2 * reach + 1) * ceiling < 32768) }
-    requires forth { (s : ℕ) → s < states → slice_index table.now (front + s) ≡ kept_modulo (path_join least (before states (meaning t.now) k s)) }
-    requires onward { (s : ℕ) → s < states → slice_index table.now (back + s) ≡ kept_modulo (path_join least (after (meaning t.now) (suc k) s)) }
-    ensures told { (b : ℕ) → b < bits t.now → slice_index_or out.new b None ≡ reliability (path_join least (paths_with states (meaning t.now) k b 0)) (path_join least (paths_with states (meaning t.now) k b 1)) }
-    ensures bound { (b : ℕ) → b < bits t.now → Bounded ((2 * reach + 1) * ceiling) (slice_index_or out.new b None) }
-    ensures sixteen { (b : ℕ) → b < bits t.now → Bounded 32767 (slice_index_or out.new b None) }
+    requires stage { k < (T.meaning t.now).stages }
+    requires columns { (front + T.states ≤ length table.now) × (back + T.states ≤ length table.now) }
+    requires served { (1 ≤ T.reach) × ((2 * T.reach + 1) * T.ceiling < 32768) }
+    requires forth { (s : ℕ) → s < T.states → slice_index table.now (front + s) ≡ kept_modulo (path_join least (before T.states (T.meaning t.now) k s)) }
+    requires onward { (s : ℕ) → s < T.states → slice_index table.now (back + s) ≡ kept_modulo (path_join least (after (T.meaning t.now) (suc k) s)) }
+    ensures told { (b : ℕ) → b < T.bits t.now → slice_index_or out.new b None ≡ reliability (path_join least (paths_with T.states (T.meaning t.now) k b 0)) (path_join least (paths_with T.states (T.meaning t.now) k b 1)) }
+    ensures bound { (b : ℕ) → b < T.bits t.now → Bounded ((2 * T.reach + 1) * T.ceiling) (slice_index_or out.new b None) }
+    ensures sixteen { (b : ℕ) → b < T.bits t.now → Bounded 32767 (slice_index_or out.new b None) }
 {
     marginals::<T, ModuloCost>(
         t,

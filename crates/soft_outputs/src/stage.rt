@@ -23,12 +23,12 @@ pub fn stage_reliabilities<T: Trellis>(
     room: &mut Room,
     out: &mut [Option<i32>; 8],
 )
-    requires stage { k < (meaning t.now).stages }
-    requires long { columns_size states (meaning t.now).stages + columns_size states (meaning t.now).stages ≤ length table.now }
-    requires worked { (p : ℕ) → p < columns_size states (meaning t.now).stages + columns_size states (meaning t.now).stages → slice_index table.now p ≡ work_entry way states (meaning t.now) p }
-    requires cheap { ceiling < 131072 }
-    requires served { way ≡ Modular → (1 ≤ reach) × ((2 * reach + 1) * ceiling < 32768) }
-    ensures told { (b : ℕ) → b < bits t.now → slice_index_or out.new b None ≡ reliability (path_join least (paths_with states (meaning t.now) k b 0)) (path_join least (paths_with states (meaning t.now) k b 1)) }
+    requires stage { k < (T.meaning t.now).stages }
+    requires long { columns_size T.states (T.meaning t.now).stages + columns_size T.states (T.meaning t.now).stages ≤ length table.now }
+    requires worked { (p : ℕ) → p < columns_size T.states (T.meaning t.now).stages + columns_size T.states (T.meaning t.now).stages → slice_index table.now p ≡ work_entry way T.states (T.meaning t.now) p }
+    requires cheap { T.ceiling < 131072 }
+    requires served { way ≡ Modular → (1 ≤ T.reach) × ((2 * T.reach + 1) * T.ceiling < 32768) }
+    ensures told { (b : ℕ) → b < T.bits t.now → slice_index_or out.new b None ≡ reliability (path_join least (paths_with T.states (T.meaning t.now) k b 0)) (path_join least (paths_with T.states (T.meaning t.now) k b 1)) }
 {
     let states = T::state_count();
     let front = k * states;

@@ -12,11 +12,11 @@ use paths::{LeastCost, Trellis, Weights};
 
 // Lays the metastages of the stages behind the room of the columns, then both columns. Answers where the metastages begin.
 fn sweep<T: Trellis, W: Weights>(t: &T, table: &mut [W::Value]) -> usize
-    requires { columns_size states (meaning t.now).stages + columns_size states (meaning t.now).stages + levels_room states (meaning t.now).stages ≤ length table.old }
-    ensures base { result ≡ columns_size states (meaning t.now).stages + columns_size states (meaning t.now).stages }
-    ensures stages { Stages ops states (meaning t.now) result table.new }
-    ensures forth { Forward ops states (meaning t.now) table.new }
-    ensures back { Backward ops states (meaning t.now) table.new }
+    requires { columns_size T.states (T.meaning t.now).stages + columns_size T.states (T.meaning t.now).stages + levels_room T.states (T.meaning t.now).stages ≤ length table.old }
+    ensures base { result ≡ columns_size T.states (T.meaning t.now).stages + columns_size T.states (T.meaning t.now).stages }
+    ensures stages { Stages W.ops T.states (T.meaning t.now) result table.new }
+    ensures forth { Forward W.ops T.states (T.meaning t.now) table.new }
+    ensures back { Backward W.ops T.states (T.meaning t.now) table.new }
 {
     let states = T::state_count();
     let base = 2 * (t.stages() * states + states);
@@ -38,8 +38,8 @@ fn zero_from(table: &mut [u32], from: usize)
 
 // Columns of least costs.
 fn columns_work<T: Trellis>(t: &T, table: &mut [u32])
-    requires { columns_size states (meaning t.now).stages + columns_size states (meaning t.now).stages + levels_room states (meaning t.now).stages ≤ length table.old }
-    ensures { (p : ℕ) → p < length table.new → slice_index table.new p ≡ work_entry Way.Columns states (meaning t.now) p }
+    requires { columns_size T.states (T.meaning t.now).stages + columns_size T.states (T.meaning t.now).stages + levels_room T.states (T.meaning t.now).stages ≤ length table.old }
+    ensures { (p : ℕ) → p < length table.new → slice_index table.new p ≡ work_entry Way.Columns T.states (T.meaning t.now) p }
 {
     let base = sweep::<T, LeastCost>(t, table);
     zero_from(table, base);
@@ -47,8 +47,8 @@ fn columns_work<T: Trellis>(t: &T, table: &mut [u32])
 
 // Columns of least costs, with every level of metastages behind them.
 fn metastages_work<T: Trellis>(t: &T, table: &mut [u32])
-    requires { columns_size states (meaning t.now).stages + columns_size states (meaning t.now).stages + levels_room states (meaning t.now).stages ≤ length table.old }
-    ensures { (p : ℕ) → p < length table.new → slice_index table.new p ≡ work_entry Way.Metastages states (meaning t.now) p }
+    requires { columns_size T.states (T.meaning t.now).stages + columns_size T.states (T.meaning t.now).stages + levels_room T.states (T.meaning t.now).stages ≤ length table.old }
+    ensures { (p : ℕ) → p < length table.new → slice_index table.new p ≡ work_entry Way.Metastages T.states (T.meaning t.now) p }
 {
     let base = sweep::<T, LeastCost>(t, table);
     let level = levels::<T, LeastCost>(t, table, base);
@@ -58,9 +58,9 @@ fn metastages_work<T: Trellis>(t: &T, table: &mut [u32])
 
 // Columns in numbers modulo 65,536.
 fn modular_work<T: Trellis>(t: &T, table: &mut [u32])
-    requires room { columns_size states (meaning t.now).stages + columns_size states (meaning t.now).stages + levels_room states (meaning t.now).stages ≤ length table.old }
-    requires served { (1 ≤ reach) × ((2 * reach + 1) * ceiling < 32768) }
-    ensures { (p : ℕ) → p < length table.new → slice_index table.new p ≡ work_entry Way.Modular states (meaning t.now) p }
+    requires room { columns_size T.states (T.meaning t.now).stages + columns_size T.states (T.meaning t.now).stages + levels_room T.states (T.meaning t.now).stages ≤ length table.old }
+    requires served { (1 ≤ T.reach) × ((2 * T.reach + 1) * T.ceiling < 32768) }
+    ensures { (p : ℕ) → p < length table.new → slice_index table.new p ≡ work_entry Way.Modular T.states (T.meaning t.now) p }
 {
     let base = sweep::<T, ModuloCost>(t, table);
     zero_from(table, base);
@@ -68,10 +68,10 @@ fn modular_work<T: Trellis>(t: &T, table: &mut [u32])
 
 /// Works a pass in the way that is named, and leaves its columns and metastages in the table; whatever else stood there is cleared.
 pub fn work<T: Trellis>(way: Way, t: &T, table: &mut [u32])
-    requires room { columns_size states (meaning t.now).stages + columns_size states (meaning t.now).stages + levels_room states (meaning t.now).stages ≤ length table.old }
-    requires served { way ≡ Way.Modular → (1 ≤ reach) × ((2 * reach + 1) * ceiling < 32768) }
-    ensures table { (p : ℕ) → p < length table.new → slice_index table.new p ≡ work_entry way states (meaning t.now) p }
-    ensures whole { table.new ≡ work_table way states (meaning t.now) (length table.old) }
+    requires room { columns_size T.states (T.meaning t.now).stages + columns_size T.states (T.meaning t.now).stages + levels_room T.states (T.meaning t.now).stages ≤ length table.old }
+    requires served { way ≡ Way.Modular → (1 ≤ T.reach) × ((2 * T.reach + 1) * T.ceiling < 32768) }
+    ensures table { (p : ℕ) → p < length table.new → slice_index table.new p ≡ work_entry way T.states (T.meaning t.now) p }
+    ensures whole { table.new ≡ work_table way T.states (T.meaning t.now) (length table.old) }
 {
     match way {
         Way::Columns => columns_work(t, table),

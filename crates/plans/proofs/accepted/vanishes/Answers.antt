@@ -1,4 +1,4 @@
-use Rattle.std.proofs.Common.{◌≡◌, ℕ, eqb, ap}
+use Rattle.std.proofs.Common.{eqb, ap}
 use Rattle.plans.proofs.Powers.{sixteenth}
 use Rattle.plans.proofs.accepted.vanishes.Goals as goal
 

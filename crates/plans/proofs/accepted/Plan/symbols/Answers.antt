@@ -1,4 +1,4 @@
-use Rattle.std.proofs.Common.{◌≡◌, ℕ, ◌*◌, ◌/◌, ◌<◌, ◌≤◌, refl, ap, ◌∙◌, le_refl, mul-le-mul, arith}
+use Rattle.std.proofs.Common.{◌≡◌, ℕ, ◌*◌, ◌/◌, ◌≤◌, ap, ◌∙◌, le_refl, mul-le-mul, arith}
 use native.Mathlib.Nat.{div-mul_cancel}
 use Rattle.plans.specs.Plans.{coded}
 use Rattle.plans.proofs.Answering.{accepted}
