@@ -1,13 +1,12 @@
 -- What the tests of a plan mean, and that an accepted plan's interleaver is a permutation.
-use Rattle.std.proofs.Common.{◌≡◌, ℕ, ◌+◌, ◌*◌, ◌/◌, ◌%◌, ◌^◌, ◌<◌, ◌≤◌, Bool, true, false, cond, ◌&&◌, eqb, ltb, leb, is_some, Some, None, Option, sym, refl, ap, ◌∙◌, subst, mod-lt, arith}
-use Prim.Native.Nat.{◌∣◌}
+use Rattle.std.proofs.Common.{◌≡◌, ℕ, ◌+◌, ◌*◌, ◌%◌, ◌^◌, ◌<◌, Bool, true, false, ◌&&◌, eqb, ltb, leb, is_some, Some, None, Option, refl, subst, mod-lt, arith}
 use native.Mathlib.Nat.{dvd_of_mod-eq-zero, mod-eq-zero_of_dvd}
 use Rattle.std.proofs.lemmas.Bool.{leb-true, le-leb, ltb-true, lt-ltb, eqb-true, eq-eqb, and_parts, and_from, both_ways}
 use Rattle.plans.specs.declared.values.PlanValues.{PlanValues}
 use Rattle.plans.specs.declared.refusals.Refusal.{Refusal}
 use Rattle.plans.specs.Divisors.{coprime}
 use Rattle.plans.specs.Permutations.{Permutation}
-use Rattle.plans.specs.Plans.{stages, coded, interleaver, Sized, Grouped, Permuting, sized, grouped, permuting, plan_refusal, Answered}
+use Rattle.plans.specs.Plans.{coded, interleaver, Sized, Grouped, Permuting, sized, grouped, permuting, plan_refusal, Answered}
 use Rattle.plans.proofs.Coprimes.{coprime_means, means_coprime}
 use Rattle.plans.proofs.Cancels.{one_to_one}
 use Rattle.plans.proofs.Pigeons.{covers}

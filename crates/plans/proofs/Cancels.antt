@@ -1,8 +1,8 @@
 -- The quadratic permutation polynomial is one to one: its quadratic factor is nilpotent, its linear one a unit.
-use Rattle.std.proofs.Common.{◌≡◌, ℕ, zero, suc, ◌+◌, ◌-◌, ◌*◌, ◌/◌, ◌%◌, ◌^◌, ◌<◌, ◌≤◌, sym, refl, ap, ◌∙◌, subst, inl, inr, ⊎_elim, mod-lt, pow-suc, mul-one, arith}
+use Rattle.std.proofs.Common.{◌≡◌, ℕ, zero, suc, ◌+◌, ◌-◌, ◌*◌, ◌/◌, ◌%◌, ◌^◌, ◌<◌, ◌≤◌, sym, refl, ap, ◌∙◌, subst, ⊎_elim, mod-lt, pow-suc, mul-one, arith}
 use Prim.Native.Nat.{◌∣◌}
 use native.Mathlib.Nat.{div-add-mod, dvd_refl, dvd-zero, dvd-mul_right, dvd-mul_left_of_dvd, dvd-mul_right_of_dvd, dvd-add_iff_right, dvd-add_iff_left, dvd-mod_iff, dvd-sub, le_of_dvd, pow-zero}
-use Rattle.std.proofs.lemmas.Bool.{cases_lt, cases_eq}
+use Rattle.std.proofs.lemmas.Bool.{cases_lt}
 use Rattle.plans.specs.Divisors.{Coprime}
 
 -- what divides a times x and b times x divides their common divisor times x

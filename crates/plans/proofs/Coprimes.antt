@@ -1,8 +1,8 @@
 -- The test of coprimality, and what a greatest common divisor tells of it.
-use Rattle.std.proofs.Common.{◌≡◌, ℕ, zero, suc, ◌+◌, ◌%◌, ◌<◌, ◌≤◌, Bool, true, false, not, ◌&&◌, ◌||◌, eqb, sym, refl, ap, ◌∙◌, subst, inl, inr, ⊎_elim, arith}
+use Rattle.std.proofs.Common.{◌≡◌, ℕ, zero, suc, ◌%◌, ◌<◌, ◌≤◌, Bool, true, false, not, ◌||◌, eqb, sym, refl, ◌∙◌, subst, ⊎_elim, arith}
 use Prim.Native.Nat.{◌∣◌}
 use native.Mathlib.Nat.{eq-zero_of_zero-dvd, le_of_dvd, dvd_of_mod-eq-zero, mod-eq-zero_of_dvd, eq-one_of_dvd-one}
-use Rattle.std.proofs.lemmas.Bool.{eqb-true, eq-eqb, ne_eqb, cases_eq, and_parts, and_from, or_cases, or_left, or_right, not-true, not_from_false, and_left, and_right, both_ways}
+use Rattle.std.proofs.lemmas.Bool.{eqb-true, eq-eqb, ne_eqb, cases_eq, and_parts, and_from, or_cases, or_left, or_right, not-true, not_from_false, both_ways}
 use Rattle.plans.specs.Divisors.{Coprime, GreatestCommon, common, none_common, coprime}
 
 unlike : (t : Bool) → (t ≡ true → ⊥) → t ≡ false

@@ -1,6 +1,5 @@
 -- A sixteenth power modulo n by four squarings.
-use Rattle.std.proofs.Common.{◌≡◌, ℕ, zero, suc, ◌+◌, ◌-◌, ◌*◌, ◌/◌, ◌%◌, ◌^◌, ◌<◌, ◌≤◌, Bool, true, false, cond, sym, refl, ap, ◌∙◌, subst, add-suc, suc-add, pow-suc, arith}
-use Prim.Native.Nat.{◌∣◌}
+use Rattle.std.proofs.Common.{◌≡◌, ℕ, zero, suc, ◌+◌, ◌*◌, ◌/◌, ◌%◌, ◌^◌, sym, ap, ◌∙◌, add-suc, suc-add, pow-suc, arith}
 use native.Mathlib.Nat.{div-add-mod, add-mul-mod_self_left, pow-zero}
 
 ring : (n q r : ℕ) → (n * q + r) * (n * q + r) ≡ r * r + n * (q * (n * q + r) + r * q)

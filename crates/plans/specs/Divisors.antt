@@ -1,5 +1,5 @@
 -- Common divisors.
-use Rattle.std.specs.Prelude.{◌≡◌, ℕ, zero, suc, ◌%◌, Bool, true, false, not, ◌&&◌, ◌||◌, ◌==◌}
+use Rattle.std.specs.Prelude.{◌≡◌, ℕ, zero, suc, ◌%◌, Bool, true, not, ◌&&◌, ◌||◌, ◌==◌}
 use Rattle.std.specs.Int.{◌∣◌}
 
 -- g divides both a and b, and whatever divides both divides g

@@ -26,8 +26,8 @@ more f g was is k m h front same =
 pub loop-k-init : goal.loop-k-init
 loop-k-init c = (rw (zero-mul c.args.m) refl, refl)
 
-pub stage-reliabilities-requires : goal.stage-reliabilities-requires
-stage-reliabilities-requires c =
+pub stage_reliabilities-requires : goal.stage_reliabilities-requires
+stage_reliabilities-requires c =
     record { stage = omega arith; long = omega arith; worked = λ p h. c.work.ensures.table p (omega arith); cheap = omega arith; served = λ e. (omega arith, omega arith) }
 
 pub lay-requires : goal.lay-requires
@@ -37,7 +37,7 @@ pub loop-k-preserved : goal.loop-k-preserved
 loop-k-preserved c =
     let h = within c.loop-k.k c.args.n c.args.m c.loop-k-test.true in (
       more _ _ c.loop-k.out c.lay.new.out c.loop-k.k c.args.m c.lay.ensures.front c.loop-k.invariant.0
-          (λ b l. placed c.args.m c.args.n c.args.rows.now c.args.priors.now _ c.loop-k.k b _ l c.new-t.ensures.means (c.stage-reliabilities.ensures.told b (omega arith))),
+          (λ b l. placed c.args.m c.args.n c.args.rows.now c.args.priors.now _ c.loop-k.k b _ l c.new-t.ensures.means (c.stage_reliabilities.ensures.told b (omega arith))),
       dropped_more c.loop-k.out c.lay.new.out (c.loop-k.k * c.args.m + c.args.m) (c.args.n * c.args.m) h c.lay.ensures.tail ∙ c.loop-k.invariant.1,
     )
 

@@ -5,6 +5,6 @@ use Rattle.cost_file.proofs.walk.judge_payload.Goals as goal
 pub returns : goal.returns
 returns c =
     record {
-      value = payload_judged c.args.plan.values c.args.file.now c.rows-end-end.result c.symbols.result (result_err c.judge.result)
-          c.rows-end-end.ensures.value c.symbols.ensures.value c.if-file-end.false c.judge.ensures.value;
+      value = payload_judged c.args.plan.values c.args.file.now c.rows_end-end.result c.symbols.result (result_err c.judge.result)
+          c.rows_end-end.ensures.value c.symbols.ensures.value c.if-file-end.false c.judge.ensures.value;
     }

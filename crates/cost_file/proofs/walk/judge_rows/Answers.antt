@@ -6,23 +6,23 @@ use Rattle.cost_file.proofs.Canonical.{row_within}
 use Rattle.cost_file.proofs.Judged.{row_passes, row_fails}
 use Rattle.cost_file.proofs.walk.judge_rows.Goals as goal
 
-pub slice-bounds-judge-end : goal.slice-bounds-judge-end
-slice-bounds-judge-end c =
+pub slice_bounds-judge-end : goal.slice_bounds-judge-end
+slice_bounds-judge-end c =
     let l : c.loop-k.k < symbols c.args.plan.values = omega (arith, c.symbols-k-end.ensures.value) in
     let h = row_within c.args.plan.values c.loop-k.k l in
-    let p = row_place c.args.plan.values c.loop-k.k c.slots-slots.result c.row-at-at.result c.slots-slots.ensures.value c.row-at-at.ensures.value in
+    let p = row_place c.args.plan.values c.loop-k.k c.slots-slots.result c.row_at-at.result c.slots-slots.ensures.value c.row_at-at.ensures.value in
     omega (arith, c.slots-slots.ensures.value)
 
-pub returns-in-err-judge : goal.returns-in-err-judge
-returns-in-err-judge c =
+pub returns-in_err-judge : goal.returns-in_err-judge
+returns-in_err-judge c =
     let l : c.loop-k.k < symbols c.args.plan.values = omega (arith, c.symbols-k-end.ensures.value) in
-    let at = row_place c.args.plan.values c.loop-k.k c.slots-slots.result c.row-at-at.result c.slots-slots.ensures.value c.row-at-at.ensures.value in
+    let at = row_place c.args.plan.values c.loop-k.k c.slots-slots.result c.row_at-at.result c.slots-slots.ensures.value c.row_at-at.ensures.value in
     let p = err_from_is_err_and c.from-residual.result c.from-residual.ensures.1 in
-    let h = row_fails c.args.plan.values c.args.file.now c.loop-k.k c.row-at-at.result c.slots-slots.result c.in-err-judge.field-0.0 l at c.slots-slots.ensures.value c.in-err-judge.ensures.value in
+    let h = row_fails c.args.plan.values c.args.file.now c.loop-k.k c.row_at-at.result c.slots-slots.result c.in_err-judge.field-0.0 l at c.slots-slots.ensures.value c.in_err-judge.ensures.value in
     rw (p.1, p.2) record { value = h ∙ c.loop-k.invariant }
 
 pub loop-k-preserved : goal.loop-k-preserved
 loop-k-preserved c =
     let l : c.loop-k.k < symbols c.args.plan.values = omega (arith, c.symbols-k-end.ensures.value) in
-    let at = row_place c.args.plan.values c.loop-k.k c.slots-slots.result c.row-at-at.result c.slots-slots.ensures.value c.row-at-at.ensures.value in
-    row_passes c.args.plan.values c.args.file.now c.loop-k.k c.row-at-at.result c.slots-slots.result l at c.slots-slots.ensures.value c.in-ok-judge.ensures.value ∙ c.loop-k.invariant
+    let at = row_place c.args.plan.values c.loop-k.k c.slots-slots.result c.row_at-at.result c.slots-slots.ensures.value c.row_at-at.ensures.value in
+    row_passes c.args.plan.values c.args.file.now c.loop-k.k c.row_at-at.result c.slots-slots.result l at c.slots-slots.ensures.value c.in_ok-judge.ensures.value ∙ c.loop-k.invariant

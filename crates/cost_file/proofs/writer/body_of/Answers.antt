@@ -2,5 +2,5 @@ use Rattle.std.proofs.Common.{ap, arith}
 use Rattle.cost_file.proofs.Sizes.{plan_sizes}
 use Rattle.cost_file.proofs.writer.body_of.Goals as goal
 
-pub overflow-cast-result : goal.overflow-cast-result
-overflow-cast-result c = let z = plan_sizes c.args.plan in omega (arith, z.bits_high)
+pub overflow_cast-result : goal.overflow_cast-result
+overflow_cast-result c = let z = plan_sizes c.args.plan in omega (arith, z.bits_high)

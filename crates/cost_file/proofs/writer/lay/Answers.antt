@@ -8,22 +8,22 @@ use Rattle.cost_file.proofs.Laying.{fitting, rows_room, payload_room, Begun, beg
 use Rattle.cost_file.proofs.Packing.{length_packed}
 use Rattle.cost_file.proofs.writer.lay.Goals as goal
 
-pub slice-bounds-pack-end : goal.slice-bounds-pack-end
-slice-bounds-pack-end c =
+pub slice_bounds-pack-end : goal.slice_bounds-pack-end
+slice_bounds-pack-end c =
     let r = rows_room (kept c.args.plan.values c.args.rows.now c.args.payload) (length c.args.out.now) c.requires.0 c.requires.1 in
     omega arith
 
-pub put-rows-requires : goal.put-rows-requires
-put-rows-requires c =
+pub put_rows-requires : goal.put_rows-requires
+put_rows-requires c =
     let all = kept c.args.plan.values c.args.rows.now c.args.payload in
     let r = rows_room all (length c.args.out.now) c.requires.0 c.requires.1 in
-    let l : length c.pack.new.part ≡ 16 = ap length (c.pack.ensures.value ∙ ap (packed 1 0) c.body-of.ensures.value) ∙ length_packed 1 0 (plan_body c.args.plan.values) in
+    let l : length c.pack.new.part ≡ 16 = ap length (c.pack.ensures.value ∙ ap (packed 1 0) c.body_of.ensures.value) ∙ length_packed 1 0 (plan_body c.args.plan.values) in
     (simp (length-append, length-drop) (omega arith), (fitting all c.requires.0).0)
 
-pub slice-bounds-pack-end-in-Some : goal.slice-bounds-pack-end-in-Some
-slice-bounds-pack-end-in-Some c =
+pub slice_bounds-pack-end-in-Some : goal.slice_bounds-pack-end-in-Some
+slice_bounds-pack-end-in-Some c =
     let r = payload_room c.args.plan.values c.args.rows.now c.args.payload c.in-Some.body (length c.args.out.now) c.requires.0 c.requires.1 c.in-Some.is in
-    omega (arith, c.rows-end-end.ensures.value)
+    omega (arith, c.rows_end-end.ensures.value)
 
 pub returns-in-Some : goal.returns-in-Some
 returns-in-Some c =
@@ -31,24 +31,24 @@ returns-in-Some c =
     let rows = c.args.rows.now in
     let was = c.args.out.now in
     let all = kept v rows c.args.payload in
-    let end = c.rows-end-end.result in
+    let end = c.rows_end-end.result in
     let body = c.in-Some.body.now in
-    let is = put_mid end (end + length body + 8 - end) c.put-rows.new.out c.pack-in-Some.new.part in
+    let is = put_mid end (end + length body + 8 - end) c.put_rows.new.out c.pack-in-Some.new.part in
     let r = payload_room v rows c.args.payload c.in-Some.body (length was) c.requires.0 c.requires.1 c.in-Some.is in
-    let b : Begun v was (c.pack.new.part ++ post_of 0 16 was) = begun v was c.pack.new.part (omega arith) (c.pack.ensures.value ∙ ap (packed 1 0) c.body-of.ensures.value) in
+    let b : Begun v was (c.pack.new.part ++ post_of 0 16 was) = begun v was c.pack.new.part (omega arith) (c.pack.ensures.value ∙ ap (packed 1 0) c.body_of.ensures.value) in
     let last : c.pack-in-Some.new.part ≡ packed 3 (symbols v + 1) body = c.pack-in-Some.ensures.value ∙ ap (λ n. packed 3 (n + 1) body) c.symbols.ensures.value in
     let l : Laid all was is = subst (λ o. Laid (kept v rows o) was is) (sym c.in-Some.is)
-    (laid_payload v rows body was (c.pack.new.part ++ post_of 0 16 was) c.put-rows.new.out c.pack-in-Some.new.part end
-    (fitting all c.requires.0).0 b c.put-rows.ensures.front c.put-rows.ensures.tail c.rows-end-end.ensures.value (omega (arith, c.rows-end-end.ensures.value)) last) in
+    (laid_payload v rows body was (c.pack.new.part ++ post_of 0 16 was) c.put_rows.new.out c.pack-in-Some.new.part end
+    (fitting all c.requires.0).0 b c.put_rows.ensures.front c.put_rows.ensures.tail c.rows_end-end.ensures.value (omega (arith, c.rows_end-end.ensures.value)) last) in
     record { after = l }
 
-pub returns-in-default : goal.returns-in-default
-returns-in-default c =
+pub returns-in_default : goal.returns-in_default
+returns-in_default c =
     let v = c.args.plan.values in
     let rows = c.args.rows.now in
     let all = kept v rows c.args.payload in
     let r = rows_room all (length c.args.out.now) c.requires.0 c.requires.1 in
-    let b : Begun v c.args.out.now (c.pack.new.part ++ post_of 0 16 c.args.out.now) = begun v c.args.out.now c.pack.new.part (omega arith) (c.pack.ensures.value ∙ ap (packed 1 0) c.body-of.ensures.value) in
-    let l : Laid (kept v rows c.args.payload) c.args.out.now c.put-rows.new.out = subst (λ o. Laid (kept v rows o) c.args.out.now c.put-rows.new.out) (sym c.in-default.is)
-    (laid_rows v rows c.args.out.now (c.pack.new.part ++ post_of 0 16 c.args.out.now) c.put-rows.new.out (fitting all c.requires.0).0 b c.put-rows.ensures.front c.put-rows.ensures.tail) in
+    let b : Begun v c.args.out.now (c.pack.new.part ++ post_of 0 16 c.args.out.now) = begun v c.args.out.now c.pack.new.part (omega arith) (c.pack.ensures.value ∙ ap (packed 1 0) c.body_of.ensures.value) in
+    let l : Laid (kept v rows c.args.payload) c.args.out.now c.put_rows.new.out = subst (λ o. Laid (kept v rows o) c.args.out.now c.put_rows.new.out) (sym c.in-default.is)
+    (laid_rows v rows c.args.out.now (c.pack.new.part ++ post_of 0 16 c.args.out.now) c.put_rows.new.out (fitting all c.requires.0).0 b c.put_rows.ensures.front c.put_rows.ensures.tail) in
     record { after = l }

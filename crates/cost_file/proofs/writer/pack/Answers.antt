@@ -6,7 +6,7 @@ use Rattle.cost_file.proofs.writer.pack.Goals as goal
 pub returns : goal.returns
 returns c =
     record {
-      value = packs c.args.part.now c.args.body.now c.copy-from-slice.new.self c.copy-from-slice-2.new.self c.copy-from-slice-3.new.self (kind_of c.args.kind) c.args.number c.check.result
-          c.requires (c.copy-from-slice.ensures.after ∙ c.head.ensures.value) c.copy-from-slice-2.ensures.after
-          (c.copy-from-slice-3.ensures.after ∙ c.to-be-bytes-sum.ensures ∙ sym (four_bytes c.check.result)) c.check.ensures.value;
+      value = packs c.args.part.now c.args.body.now c.copy_from_slice.new.self c.copy_from_slice-2.new.self c.copy_from_slice-3.new.self (kind_of c.args.kind) c.args.number c.check.result
+          c.requires (c.copy_from_slice.ensures.after ∙ c.head.ensures.value) c.copy_from_slice-2.ensures.after
+          (c.copy_from_slice-3.ensures.after ∙ c.to_be_bytes-sum.ensures ∙ sym (four_bytes c.check.result)) c.check.ensures.value;
     }

@@ -20,6 +20,6 @@ same_rows v payload sent rows cost n k e h =
 
 pub returns : goal.returns
 returns c =
-    let e = same_rows c.args.values c.args.payload.now c.encode.new.out c.lay-clean.new.rows c.args.cost c.in-ok-symbols.symbols c.in-ok-costs.costs
-    c.in-ok-symbols.ensures.cases.front c.in-ok-costs.ensures.cases.front in
+    let e = same_rows c.args.values c.args.payload.now c.encode.new.out c.lay_clean.new.rows c.args.cost c.in_ok-symbols.symbols c.in_ok-costs.costs
+    c.in_ok-symbols.ensures.cases.front c.in_ok-costs.ensures.cases.front in
     record { laid = read_back _ _ _ _ c.write.result (ap (λ (xs : List ℕ). record { plan = c.args.values; rows = xs; payload = Some c.args.payload.now }) e) c.write.ensures.cases }

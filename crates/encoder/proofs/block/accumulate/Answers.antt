@@ -16,7 +16,7 @@ next v u j i b held eb ei eh = rw (add-one, eb, ei, eh) refl
 pub returns : goal.returns
 returns c =
     record {
-      value = differs c.coded-bit.result c.args.held
-          ∙ next c.args.plan.values (data_bits c.args.payload.now) c.args.j c.in-Some.i c.coded-bit.result c.args.held c.coded-bit.ensures.value
+      value = differs c.coded_bit.result c.args.held
+          ∙ next c.args.plan.values (data_bits c.args.payload.now) c.args.j c.in-Some.i c.coded_bit.result c.args.held c.coded_bit.ensures.value
           (found c.args.plan.values c.args.j c.in-Some.i c.requires.inside c.in-Some.ensures.value) c.requires.before;
     }

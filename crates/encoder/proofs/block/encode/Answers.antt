@@ -28,19 +28,19 @@ served : (v : PlanValues) (len room : ℕ) → plan_refusal v ≡ None → len �
 unfolding encode_refusal
 served v len room h l r = rw (h, eq-eqb len v.bytes l, le-leb (symbols v) room r) refl
 
-pub returns-in-err-plan : goal.returns-in-err-plan
-returns-in-err-plan c =
+pub returns-in_err-plan : goal.returns-in_err-plan
+returns-in_err-plan c =
     let p = err_from_is_err_and c.from-residual.result c.from-residual.ensures.1 in
-    record { cases = rw (p.1, p.2) (planless c.args.values (length c.args.payload.now) (length c.args.out.now) c.in-err-plan.field-0.0 c.in-err-plan.ensures.cases, refl) }
+    record { cases = rw (p.1, p.2) (planless c.args.values (length c.args.payload.now) (length c.args.out.now) c.in_err-plan.field-0.0 c.in_err-plan.ensures.cases, refl) }
 
 pub returns-then-payload-bytes : goal.returns-then-payload-bytes
 returns-then-payload-bytes c =
-    let a = c.in-ok-plan.ensures.cases in
+    let a = c.in_ok-plan.ensures.cases in
     record { cases = (uneven c.args.values _ _ a.1 (λ e. c.if-payload-bytes.true (e ∙ sym (c.bytes.ensures.value ∙ ap (λ v. v.bytes) a.0))), refl) }
 
 pub returns-then-out-n : goal.returns-then-out-n
 returns-then-out-n c =
-    let a = c.in-ok-plan.ensures.cases in
+    let a = c.in_ok-plan.ensures.cases in
     let n : c.symbols-n.result ≡ symbols c.args.values = c.symbols-n.ensures.value ∙ ap symbols a.0 in
     record { cases = (cramped c.args.values _ _ a.1 (c.if-payload-bytes.false ∙ c.bytes.ensures.value ∙ ap (λ v. v.bytes) a.0) (omega arith), refl) }
 
@@ -58,8 +58,8 @@ wrote v w payload was is n e h perm two en whole len room rest bytes front tail 
 
 pub returns : goal.returns
 returns c =
-    let a = c.in-ok-plan.ensures.cases in
-    let plan = c.in-ok-plan.plan in
+    let a = c.in_ok-plan.ensures.cases in
+    let plan = c.in_ok-plan.plan in
     let ok = accepted plan.values plan.accepted in
     record {
       cases = wrote c.args.values plan.values c.args.payload.now c.args.out.now c.lay.new.out c.symbols-n.result

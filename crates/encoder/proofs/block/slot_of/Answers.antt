@@ -56,12 +56,12 @@ accumulate-acc-requires c =
       before = c.loop-i.invariant.0;
     }
 
-pub overflow-mul-value : goal.overflow-mul-value
-overflow-mul-value c =
+pub overflow_mul-value : goal.overflow_mul-value
+overflow_mul-value c =
     let h = below _ (c.args.k * c.bits-m.result) c.loop-i.i c.bits-m.result c.loop-i.value c.loop-i.invariant.1 c.loop-i.auto.i-end c.bits-m.ensures.bound.1 in omega arith
 
-pub overflow-add-value : goal.overflow-add-value
-overflow-add-value c =
+pub overflow_add-value : goal.overflow_add-value
+overflow_add-value c =
     let h = below _ (c.args.k * c.bits-m.result) c.loop-i.i c.bits-m.result c.loop-i.value c.loop-i.invariant.1 c.loop-i.auto.i-end c.bits-m.ensures.bound.1 in
     let b : c.from.result ≤ 1 = rw (c.from.ensures, bit_byte c.accumulate-acc.result) (bit_small c.accumulate-acc.result) in
     omega arith
@@ -72,8 +72,8 @@ loop-i-preserved c = (
   more c.args.plan.values (data_bits c.args.payload.now) (c.args.k * c.bits-m.result) c.loop-i.i c.loop-i.value c.from.result c.accumulate-acc.result c.loop-i.invariant.1 c.accumulate-acc.ensures.value c.from.ensures,
 )
 
-pub overflow-cast-result : goal.overflow-cast-result
-overflow-cast-result c =
+pub overflow_cast-result : goal.overflow_cast-result
+overflow_cast-result c =
     let h = below _ (c.args.k * c.bits-m.result) c.loop-i.i c.bits-m.result c.loop-i.value c.loop-i.invariant.1 c.loop-i.auto.i-end c.bits-m.ensures.bound.1 in omega arith
 
 pub returns : goal.returns

@@ -7,8 +7,8 @@ use Rattle.encoder.proofs.clean.fill.Goals as goal
 
 pub loop-i-preserved : goal.loop-i-preserved
 loop-i-preserved c = (
-  filled_more (clean_cost c.args.m c.args.sent.now c.args.cost) c.loop-i.rows c.loop-i.i c.cost-at.result (omega arith) c.loop-i.invariant.0 c.cost-at.ensures.value,
-  drop-set-lt c.args.n c.loop-i.rows c.loop-i.i c.cost-at.result c.loop-i-test.true ∙ c.loop-i.invariant.1,
+  filled_more (clean_cost c.args.m c.args.sent.now c.args.cost) c.loop-i.rows c.loop-i.i c.cost_at.result (omega arith) c.loop-i.invariant.0 c.cost_at.ensures.value,
+  drop-set-lt c.args.n c.loop-i.rows c.loop-i.i c.cost_at.result c.loop-i-test.true ∙ c.loop-i.invariant.1,
 )
 
 pub returns : goal.returns

@@ -25,14 +25,14 @@ served : (v : PlanValues) (len room : ℕ) → plan_refusal v ≡ None → len �
 unfolding clean_refusal
 served v len room h l r = rw (h, eq-eqb len (symbols v) l, le-leb (symbols v * slots v) room r) refl
 
-pub returns-in-err-plan : goal.returns-in-err-plan
-returns-in-err-plan c =
+pub returns-in_err-plan : goal.returns-in_err-plan
+returns-in_err-plan c =
     let p = err_from_is_err_and c.from-residual.result c.from-residual.ensures.1 in
-    record { cases = rw (p.1, p.2) (planless c.args.values (length c.args.sent.now) (length c.args.rows.now) c.in-err-plan.field-0.0 c.in-err-plan.ensures.cases, refl) }
+    record { cases = rw (p.1, p.2) (planless c.args.values (length c.args.sent.now) (length c.args.rows.now) c.in_err-plan.field-0.0 c.in_err-plan.ensures.cases, refl) }
 
 pub returns-then-sent-symbols : goal.returns-then-sent-symbols
 returns-then-sent-symbols c =
-    let a = c.in-ok-plan.ensures.cases in
+    let a = c.in_ok-plan.ensures.cases in
     record { cases = (uneven c.args.values _ _ a.1 (λ e. c.if-sent-symbols.true (e ∙ sym (c.symbols-symbols.ensures.value ∙ ap symbols a.0))), refl) }
 
 size : (v w : PlanValues) (n m : ℕ) → w ≡ v → n ≡ symbols w → m ≡ slots w → n * m ≡ symbols v * slots v
@@ -40,8 +40,8 @@ size v w n m e en em = ap (λ k. k * m) (en ∙ ap symbols e) ∙ ap (λ k. symb
 
 pub returns-then-rows-n : goal.returns-then-rows-n
 returns-then-rows-n c =
-    let a = c.in-ok-plan.ensures.cases in
-    let n = size c.args.values c.in-ok-plan.plan.values c.symbols-symbols.result c.slots-m.result a.0 c.symbols-symbols.ensures.value c.slots-m.ensures.value in
+    let a = c.in_ok-plan.ensures.cases in
+    let n = size c.args.values c.in_ok-plan.plan.values c.symbols-symbols.result c.slots-m.result a.0 c.symbols-symbols.ensures.value c.slots-m.ensures.value in
     record { cases = (cramped c.args.values _ _ a.1 (c.if-sent-symbols.false ∙ c.symbols-symbols.ensures.value ∙ ap symbols a.0) (omega arith), refl) }
 
 laid : (v w : PlanValues) (sent was is : List ℕ) (cost n m : ℕ) → w ≡ v → plan_refusal v ≡ None → n ≡ symbols w → m ≡ slots w → length sent ≡ n → n * m ≤ length was → n * m ≤ length is → take (n * m) is ≡ map (clean_cost m sent cost) (range_with_len 0 (n * m)) → drop (n * m) is ≡ drop (n * m) was → Laid v sent cost (n * m) was is
@@ -58,8 +58,8 @@ laid v w sent was is cost n m e h en em len room rest front tail =
 
 pub returns : goal.returns
 returns c =
-    let a = c.in-ok-plan.ensures.cases in
+    let a = c.in_ok-plan.ensures.cases in
     record {
-      cases = laid c.args.values c.in-ok-plan.plan.values c.args.sent.now c.args.rows.now c.fill.new.rows c.args.cost c.symbols-symbols.result c.slots-m.result
+      cases = laid c.args.values c.in_ok-plan.plan.values c.args.sent.now c.args.rows.now c.fill.new.rows c.args.cost c.symbols-symbols.result c.slots-m.result
           a.0 a.1 c.symbols-symbols.ensures.value c.slots-m.ensures.value c.if-sent-symbols.false c.if-rows-n.false (omega arith) c.fill.ensures.front c.fill.ensures.tail;
     }

@@ -7,9 +7,9 @@ returns g c =
     let t = c.args.t.now in
     record {
       zero = stage_zeros g.W.Weights.ops (g.T.Trellis.meaning t) (g.T.Trellis.lawful t) c.args.k c.requires.stage
-          c.args.table.now c.lay-frame.new.frame c.gather.new.words c.args.before c.args.after _ _ c.state-count.ensures c.bits-bits.ensures
-          c.lay-frame.ensures c.gather.ensures c.fold.new.zeros c.fold.ensures.zero;
+          c.args.table.now c.lay_frame.new.frame c.gather.new.words c.args.before c.args.after _ _ c.state_count.ensures c.bits-bits.ensures
+          c.lay_frame.ensures c.gather.ensures c.fold.new.zeros c.fold.ensures.zero;
       one = stage_ones g.W.Weights.ops (g.T.Trellis.meaning t) (g.T.Trellis.lawful t) c.args.k c.requires.stage
-          c.args.table.now c.lay-frame.new.frame c.gather.new.words c.args.before c.args.after _ _ c.state-count.ensures c.bits-bits.ensures
-          c.lay-frame.ensures c.gather.ensures c.fold.new.ones c.fold.ensures.one;
+          c.args.table.now c.lay_frame.new.frame c.gather.new.words c.args.before c.args.after _ _ c.state_count.ensures c.bits-bits.ensures
+          c.lay_frame.ensures c.gather.ensures c.fold.new.ones c.fold.ensures.one;
     }

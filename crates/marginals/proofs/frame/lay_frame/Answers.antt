@@ -3,8 +3,8 @@ use Rattle.std.proofs.Common.{◌+◌, ◌*◌, ◌≤◌, mul-le-mul_right, ari
 use Rattle.marginals.proofs.Frames.{row_under, frame_more}
 use Rattle.marginals.proofs.frame.lay_frame.Goals as goal
 
-pub lay-row-requires : goal.lay-row-requires
-lay-row-requires g c =
+pub lay_row-requires : goal.lay_row-requires
+lay_row-requires g c =
     let states = c.args.states in
     let under = row_under c.loop-s.s states states (omega arith) in
     let few : states * states ≤ 16 * states = mul-le-mul_right states c.requires.few in
@@ -13,5 +13,5 @@ lay-row-requires g c =
 
 pub loop-s-preserved : goal.loop-s-preserved
 loop-s-preserved g c =
-    frame_more g.W.Weights.ops c.args.table.now c.args.before c.args.after c.args.states c.loop-s.s c.loop-s.frame c.lay-row.new.frame c.loop-s.invariant
-    (record { same = c.lay-row.ensures.same; laid = c.lay-row.ensures.laid })
+    frame_more g.W.Weights.ops c.args.table.now c.args.before c.args.after c.args.states c.loop-s.s c.loop-s.frame c.lay_row.new.frame c.loop-s.invariant
+    (record { same = c.lay_row.ensures.same; laid = c.lay_row.ensures.laid })

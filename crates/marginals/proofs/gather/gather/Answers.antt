@@ -8,11 +8,11 @@ use Rattle.marginals.proofs.gather.gather.Goals as goal
 pub unreachable-requires : goal.unreachable-requires
 unreachable-requires g c = count_there (g.T.Trellis.meaning c.args.t.now) c.args.k c.requires.stage c.in-default.ensures
 
-pub unreachable-requires-in-default-edge : goal.unreachable-requires-in-default-edge
-unreachable-requires-in-default-edge g c =
+pub unreachable-requires-in_default-edge : goal.unreachable-requires-in_default-edge
+unreachable-requires-in_default-edge g c =
     let m = g.T.Trellis.meaning c.args.t.now in
     let many = count_is m c.args.k c.requires.stage c.in-Some.count c.in-Some.ensures in
-    edge_there m c.args.k c.requires.stage c.loop-i.i (omega arith) c.in-default-edge.ensures
+    edge_there m c.args.k c.requires.stage c.loop-i.i (omega arith) c.in_default-edge.ensures
 
 pub loop-i-init : goal.loop-i-init
 loop-i-init g c =
@@ -26,8 +26,8 @@ bounds-costs-i g c =
     let few = (g.T.Trellis.lawful c.args.t.now).few_edges c.args.k c.requires.stage in
     omega arith
 
-pub offset-bounds-costs-i : goal.offset-bounds-costs-i
-offset-bounds-costs-i g c =
+pub offset_bounds-costs-i : goal.offset_bounds-costs-i
+offset_bounds-costs-i g c =
     let m = g.T.Trellis.meaning c.args.t.now in
     let many = count_is m c.args.k c.requires.stage c.in-Some.count c.in-Some.ensures in
     let few = (g.T.Trellis.lawful c.args.t.now).few_edges c.args.k c.requires.stage in
@@ -51,7 +51,7 @@ loop-i-preserved g c =
     let e = c.in-Some-edge.e in
     let at = edge_is m c.args.k c.requires.stage c.loop-i.i (Some e) c.in-Some-edge.ensures in
     let cost = c.costs.ensures.laid c.loop-i.i e (sym c.in-Some-edge.ensures) in
-    let offered = offers o g.T.Trellis.states c.args.frame.now es c.loop-i.i e at _ _ _ c.state-count-states.ensures cost c.offer-more.ensures in
+    let offered = offers o g.T.Trellis.states c.args.frame.now es c.loop-i.i e at _ _ _ c.state_count-states.ensures cost c.offer-more.ensures in
     let room : c.from-w.result < length c.loop-i.words = search rules in
     gather_more (framed o g.T.Trellis.states c.args.frame.now es) es (2 ^ g.T.Trellis.bits c.args.t.now) c.loop-i.i e c.loop-i.words c.loop-i.invariant at
     c.from-w.result c.from-w.ensures room _ _ _ offered c.join.ensures

@@ -9,9 +9,9 @@ loop-x-init g c = half_start g.W.Weights.ops c.args.b c.args.words.now _ _ c.non
 pub loop-x-preserved : goal.loop-x-preserved
 loop-x-preserved g c =
     let l : c.loop-x.x < length c.loop-x.words = search rules in
-    let h : c.word-count-half.result + c.loop-x.x < length c.loop-x.words = search rules in
-    half_more g.W.Weights.ops c.args.b c.args.words.now c.loop-x.x c.word-count-half.result c.loop-x.words _ _ c.loop-x.invariant
-    c.word-count-half.ensures l h _ _ _ _ _ c.join-zero.ensures c.join-one.ensures c.join.ensures
+    let h : c.word_count-half.result + c.loop-x.x < length c.loop-x.words = search rules in
+    half_more g.W.Weights.ops c.args.b c.args.words.now c.loop-x.x c.word_count-half.result c.loop-x.words _ _ c.loop-x.invariant
+    c.word_count-half.ensures l h _ _ _ _ _ c.join-zero.ensures c.join-one.ensures c.join.ensures
 
 pub returns : goal.returns
 returns g c =

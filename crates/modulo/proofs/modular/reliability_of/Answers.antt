@@ -10,4 +10,4 @@ returns-then-one-eq-NONE c = grind (arith, nat_tests)
 
 pub returns-else-one-eq-NONE : goal.returns-else-one-eq-NONE
 unfolding reliability_modulo
-returns-else-one-eq-NONE c = let e = c.cast-signed.ensures in grind (arith, nat_tests, to_z-of_z)
+returns-else-one-eq-NONE c = let e = c.cast_signed.ensures in grind (arith, nat_tests, to_z-of_z)

@@ -5,8 +5,8 @@ use Rattle.outer_pass.proofs.Fronts.{front_none, front_more, front_two, front_al
 use Rattle.outer_pass.proofs.Stages.{same_work, of_same, decision_is, found_is, small, sent_is}
 use Rattle.outer_pass.proofs.pass.outer_pass.Goals as goal
 
-pub stage-reliabilities-requires : goal.stage-reliabilities-requires
-stage-reliabilities-requires c =
+pub stage_reliabilities-requires : goal.stage_reliabilities-requires
+stage_reliabilities-requires c =
     record { stage = omega arith; long = omega arith; worked = λ p h. c.work.ensures.table p (omega arith); cheap = omega arith; served = λ e. (omega arith, omega arith) }
 
 pub bounds-found-k : goal.bounds-found-k
@@ -18,7 +18,7 @@ bounds-decided-k c = omega arith
 pub narrow-requires : goal.narrow-requires
 narrow-requires c =
     small c.args.n c.args.priors.now c.loop-k.k _ c.requires.sizes c.loop-k-test.true
-    (of_same _ _ c.loop-k.k 2 _ (c.stage-reliabilities.ensures.told 2 (omega arith)) c.new-t.ensures.means)
+    (of_same _ _ c.loop-k.k 2 _ (c.stage_reliabilities.ensures.told 2 (omega arith)) c.new-t.ensures.means)
 
 pub loop-k-init : goal.loop-k-init
 loop-k-init c = (
@@ -32,9 +32,9 @@ loop-k-preserved c =
     let n = c.args.n in
     let priors = c.args.priors.now in
     let k = c.loop-k.k in
-    let zeroth = of_same _ _ k 0 _ (c.stage-reliabilities.ensures.told 0 (omega arith)) c.new-t.ensures.means in
-    let first = of_same _ _ k 1 _ (c.stage-reliabilities.ensures.told 1 (omega arith)) c.new-t.ensures.means in
-    let data_bit = of_same _ _ k 2 _ (c.stage-reliabilities.ensures.told 2 (omega arith)) c.new-t.ensures.means in
+    let zeroth = of_same _ _ k 0 _ (c.stage_reliabilities.ensures.told 0 (omega arith)) c.new-t.ensures.means in
+    let first = of_same _ _ k 1 _ (c.stage_reliabilities.ensures.told 1 (omega arith)) c.new-t.ensures.means in
+    let data_bit = of_same _ _ k 2 _ (c.stage_reliabilities.ensures.told 2 (omega arith)) c.new-t.ensures.means in
     let p : SFits w16 (get_or priors (2 * k) (pos 0)) = search rules in
     let q : SFits w16 (get_or priors (2 * k + 1) (pos 0)) = search rules in
     let x : SFits w16 c.told.result = search rules in

@@ -15,9 +15,9 @@ loop-k-init g c =
     let o = g.W.Weights.ops in
     let w = g.T.Trellis.states in
     let m = g.T.Trellis.meaning c.args.t.now in
-    let v = c.state-count-states.result in
+    let v = c.state_count-states.result in
     let n = c.stages-stages.result in
-    let front = columns_are v w n m.stages c.state-count-states.ensures c.stages-stages.ensures in (
+    let front = columns_are v w n m.stages c.state_count-states.ensures c.stages-stages.ensures in (
       λ p h. refl,
       λ k s h i b.
           let is : k ≡ m.stages = omega arith in
@@ -27,25 +27,25 @@ loop-k-init g c =
           ap (λ i. get_or c.finish.new.table i o.none) at ∙ c.finish.ensures.made s b ∙ ap (λ j. forward o w (reversed m) j s) (sym none_left),
     )
 
-pub overflow-mul-meta : goal.overflow-mul-meta
-overflow-mul-meta g c =
-    let r = stage_room c.state-count-states.result g.T.Trellis.states (g.T.Trellis.meaning c.args.t.now).stages (c.loop-k.k - 1) c.args.base (length c.loop-k.table) c.state-count-states.ensures (omega arith) (omega arith) in
+pub overflow_mul-meta : goal.overflow_mul-meta
+overflow_mul-meta g c =
+    let r = stage_room c.state_count-states.result g.T.Trellis.states (g.T.Trellis.meaning c.args.t.now).stages (c.loop-k.k - 1) c.args.base (length c.loop-k.table) c.state_count-states.ensures (omega arith) (omega arith) in
     omega arith
 
-pub overflow-add-meta : goal.overflow-add-meta
-overflow-add-meta g c =
-    let r = stage_room c.state-count-states.result g.T.Trellis.states (g.T.Trellis.meaning c.args.t.now).stages (c.loop-k.k - 1) c.args.base (length c.loop-k.table) c.state-count-states.ensures (omega arith) (omega arith) in
+pub overflow_add-meta : goal.overflow_add-meta
+overflow_add-meta g c =
+    let r = stage_room c.state_count-states.result g.T.Trellis.states (g.T.Trellis.meaning c.args.t.now).stages (c.loop-k.k - 1) c.args.base (length c.loop-k.table) c.state_count-states.ensures (omega arith) (omega arith) in
     omega arith
 
 pub column-requires : goal.column-requires
 column-requires g c =
-    let v = c.state-count-states.result in
+    let v = c.state_count-states.result in
     let w = g.T.Trellis.states in
     let n = (g.T.Trellis.meaning c.args.t.now).stages in
     let k = c.loop-k.k - 1 in
-    let front = columns_are v w c.stages-stages.result n c.state-count-states.ensures c.stages-stages.ensures in
-    let u = column_room v w n k c.state-count-states.ensures (omega arith) in
-    let r = stage_room v w n k c.args.base (length c.loop-k.table) c.state-count-states.ensures (omega arith) (omega arith) in
+    let front = columns_are v w c.stages-stages.result n c.state_count-states.ensures c.stages-stages.ensures in
+    let u = column_room v w n k c.state_count-states.ensures (omega arith) in
+    let r = stage_room v w n k c.args.base (length c.loop-k.table) c.state_count-states.ensures (omega arith) (omega arith) in
     record {
       room = (omega arith, omega arith, inr (omega arith));
       entries = λ x y h b. let e = entry_room y x v b h in (omega arith, inr (omega arith));
@@ -56,14 +56,14 @@ loop-k-preserved g c =
     let o = g.W.Weights.ops in
     let w = g.T.Trellis.states in
     let m = g.T.Trellis.meaning c.args.t.now in
-    let v = c.state-count-states.result in
-    let is_v : v ≡ w = c.state-count-states.ensures in
+    let v = c.state_count-states.result in
+    let is_v : v ≡ w = c.state_count-states.ensures in
     let k = c.loop-k.k - 1 in
     let size = columns_size w m.stages in
     let here : k < m.stages = omega arith in
     let flat : k * v ≡ k * w = ap (λ v. k * v) is_v in
     let row = row_more k w in
-    let front = columns_are v w c.stages-stages.result m.stages c.state-count-states.ensures c.stages-stages.ensures in
+    let front = columns_are v w c.stages-stages.result m.stages c.state_count-states.ensures c.stages-stages.ensures in
     let u = column_room v w m.stages k is_v here in
     let begun = stages_kept o w m c.args.base _ _ c.args.table.now c.finish.new.table c.requires.stages c.finish.ensures.kept (let z = ap (λ v. c.stages-stages.result * v) is_v in omega arith) in
     let stand = stages_kept o w m c.args.base size size c.finish.new.table c.loop-k.table begun c.loop-k.invariant.0 (omega arith) in (
@@ -89,8 +89,8 @@ pub returns : goal.returns
 returns g c =
     let w = g.T.Trellis.states in
     let m = g.T.Trellis.meaning c.args.t.now in
-    let v = c.state-count-states.result in
-    let front = columns_are v w c.stages-stages.result m.stages c.state-count-states.ensures c.stages-stages.ensures in
+    let v = c.state_count-states.result in
+    let front = columns_are v w c.stages-stages.result m.stages c.state_count-states.ensures c.stages-stages.ensures in
     record {
       kept = λ p h. c.loop-k.invariant.0 p h ∙ c.finish.ensures.kept p (⊎_elim (λ l. inl (omega arith)) (λ l. inr (omega arith)) h);
       made = λ k s h b. c.loop-k.invariant.1 k s (omega arith) h b;

@@ -5,11 +5,11 @@ use Rattle.passes.proofs.columns.column.Goals as goal
 pub loop-y-init : goal.loop-y-init
 loop-y-init g c = (λ p h. refl, λ y h. absurd (omega arith))
 
-pub overflow-mul-y : goal.overflow-mul-y
-overflow-mul-y g c = let u = (c.requires.entries 0 c.loop-y.y (omega arith) (omega arith)).0 in omega arith
+pub overflow_mul-y : goal.overflow_mul-y
+overflow_mul-y g c = let u = (c.requires.entries 0 c.loop-y.y (omega arith) (omega arith)).0 in omega arith
 
-pub overflow-add-meta : goal.overflow-add-meta
-overflow-add-meta g c = let u = (c.requires.entries 0 c.loop-y.y (omega arith) (omega arith)).0 in omega arith
+pub overflow_add-meta : goal.overflow_add-meta
+overflow_add-meta g c = let u = (c.requires.entries 0 c.loop-y.y (omega arith) (omega arith)).0 in omega arith
 
 pub dot-requires : goal.dot-requires
 dot-requires g c = record { column = omega arith; entries = λ x h. let u = (c.requires.entries x c.loop-y.y h (omega arith)).0 in omega arith }

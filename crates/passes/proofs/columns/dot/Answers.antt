@@ -10,14 +10,14 @@ loop-x-init g c =
     let tb = c.args.table.now in
     c.none-sum.ensures ∙ sym (below_zero o (λ x. o.chain (get_or tb (c.args.from + x) o.none) (get_or tb (c.args.meta + x * c.args.row) o.none)))
 
-pub overflow-mul-x : goal.overflow-mul-x
-overflow-mul-x g c = let u = c.requires.entries c.loop-x.x (omega arith) in omega arith
+pub overflow_mul-x : goal.overflow_mul-x
+overflow_mul-x g c = let u = c.requires.entries c.loop-x.x (omega arith) in omega arith
 
-pub overflow-add-meta : goal.overflow-add-meta
-overflow-add-meta g c = let u = c.requires.entries c.loop-x.x (omega arith) in omega arith
+pub overflow_add-meta : goal.overflow_add-meta
+overflow_add-meta g c = let u = c.requires.entries c.loop-x.x (omega arith) in omega arith
 
-pub offset-bounds-table-meta : goal.offset-bounds-table-meta
-offset-bounds-table-meta g c = let u = c.requires.entries c.loop-x.x (omega arith) in omega arith
+pub offset_bounds-table-meta : goal.offset_bounds-table-meta
+offset_bounds-table-meta g c = let u = c.requires.entries c.loop-x.x (omega arith) in omega arith
 
 pub bounds-table-meta : goal.bounds-table-meta
 bounds-table-meta g c = let u = c.requires.entries c.loop-x.x (omega arith) in omega arith

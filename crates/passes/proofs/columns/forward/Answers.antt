@@ -21,31 +21,31 @@ loop-k-init g c =
           ap (λ i. get_or c.start.new.table i o.none) flat ∙ c.start.ensures.made s b ∙ ap (λ i. forward o w m i s) (sym is),
     )
 
-pub overflow-mul-from : goal.overflow-mul-from
-overflow-mul-from g c =
-    let u = column_room c.state-count-states.result g.T.Trellis.states (g.T.Trellis.meaning c.args.t.now).stages c.loop-k.k c.state-count-states.ensures (omega arith) in
+pub overflow_mul-from : goal.overflow_mul-from
+overflow_mul-from g c =
+    let u = column_room c.state_count-states.result g.T.Trellis.states (g.T.Trellis.meaning c.args.t.now).stages c.loop-k.k c.state_count-states.ensures (omega arith) in
     omega arith
 
-pub overflow-mul-meta : goal.overflow-mul-meta
-overflow-mul-meta g c =
-    let u = stage_room c.state-count-states.result g.T.Trellis.states (g.T.Trellis.meaning c.args.t.now).stages c.loop-k.k c.args.base (length c.loop-k.table) c.state-count-states.ensures (omega arith) (omega arith) in
+pub overflow_mul-meta : goal.overflow_mul-meta
+overflow_mul-meta g c =
+    let u = stage_room c.state_count-states.result g.T.Trellis.states (g.T.Trellis.meaning c.args.t.now).stages c.loop-k.k c.args.base (length c.loop-k.table) c.state_count-states.ensures (omega arith) (omega arith) in
     omega arith
 
-pub overflow-add-meta : goal.overflow-add-meta
-overflow-add-meta g c =
-    let u = stage_room c.state-count-states.result g.T.Trellis.states (g.T.Trellis.meaning c.args.t.now).stages c.loop-k.k c.args.base (length c.loop-k.table) c.state-count-states.ensures (omega arith) (omega arith) in
+pub overflow_add-meta : goal.overflow_add-meta
+overflow_add-meta g c =
+    let u = stage_room c.state_count-states.result g.T.Trellis.states (g.T.Trellis.meaning c.args.t.now).stages c.loop-k.k c.args.base (length c.loop-k.table) c.state_count-states.ensures (omega arith) (omega arith) in
     omega arith
 
-pub overflow-add-from : goal.overflow-add-from
-overflow-add-from g c =
-    let u = column_room c.state-count-states.result g.T.Trellis.states (g.T.Trellis.meaning c.args.t.now).stages c.loop-k.k c.state-count-states.ensures (omega arith) in
+pub overflow_add-from : goal.overflow_add-from
+overflow_add-from g c =
+    let u = column_room c.state_count-states.result g.T.Trellis.states (g.T.Trellis.meaning c.args.t.now).stages c.loop-k.k c.state_count-states.ensures (omega arith) in
     omega arith
 
 pub column-requires : goal.column-requires
 column-requires g c =
-    let v = c.state-count-states.result in
-    let u = column_room c.state-count-states.result g.T.Trellis.states (g.T.Trellis.meaning c.args.t.now).stages c.loop-k.k c.state-count-states.ensures (omega arith) in
-    let r = stage_room c.state-count-states.result g.T.Trellis.states (g.T.Trellis.meaning c.args.t.now).stages c.loop-k.k c.args.base (length c.loop-k.table) c.state-count-states.ensures (omega arith) (omega arith) in
+    let v = c.state_count-states.result in
+    let u = column_room c.state_count-states.result g.T.Trellis.states (g.T.Trellis.meaning c.args.t.now).stages c.loop-k.k c.state_count-states.ensures (omega arith) in
+    let r = stage_room c.state_count-states.result g.T.Trellis.states (g.T.Trellis.meaning c.args.t.now).stages c.loop-k.k c.args.base (length c.loop-k.table) c.state_count-states.ensures (omega arith) (omega arith) in
     record {
       room = (omega arith, omega arith, inl (omega arith));
       entries = λ x y h b. let e = entry_room x y v h b in (omega arith, inr (omega arith));
@@ -56,8 +56,8 @@ loop-k-preserved g c =
     let o = g.W.Weights.ops in
     let w = g.T.Trellis.states in
     let m = g.T.Trellis.meaning c.args.t.now in
-    let v = c.state-count-states.result in
-    let is_v : v ≡ w = c.state-count-states.ensures in
+    let v = c.state_count-states.result in
+    let is_v : v ≡ w = c.state_count-states.ensures in
     let k = c.loop-k.k in
     let here : k < m.stages = omega arith in
     let flat : k * v ≡ k * w = ap (λ v. k * v) is_v in

@@ -28,57 +28,57 @@ loop-many-init g c =
     )
 
 -- the room of this level and the next, as the code counts it
-pub overflow-mul-to : goal.overflow-mul-to
-overflow-mul-to g c =
+pub overflow_mul-to : goal.overflow_mul-to
+overflow_mul-to g c =
     let w = g.T.Trellis.states in
     let n = (g.T.Trellis.meaning c.args.t.now).stages in
-    let v = c.state-count-states.result in
+    let v = c.state_count-states.result in
     let few = (g.T.Trellis.lawful c.args.t.now).few_stages in
     let is = c.loop-many.invariant.1 in
     let r = room_level n c.loop-many.level (w * w) few (omega arith) in
-    let e : c.loop-many.many * (v * v) ≡ c.loop-many.many * (w * w) = ap (λ v. c.loop-many.many * (v * v)) c.state-count-states.ensures in
+    let e : c.loop-many.many * (v * v) ≡ c.loop-many.many * (w * w) = ap (λ v. c.loop-many.many * (v * v)) c.state_count-states.ensures in
     let f = ap (λ a. a * (w * w)) c.loop-many.invariant.1 in
     omega arith
 
-pub overflow-add-to : goal.overflow-add-to
-overflow-add-to g c =
+pub overflow_add-to : goal.overflow_add-to
+overflow_add-to g c =
     let w = g.T.Trellis.states in
     let n = (g.T.Trellis.meaning c.args.t.now).stages in
-    let v = c.state-count-states.result in
+    let v = c.state_count-states.result in
     let few = (g.T.Trellis.lawful c.args.t.now).few_stages in
     let is = c.loop-many.invariant.1 in
     let r = room_level n c.loop-many.level (w * w) few (omega arith) in
-    let e : c.loop-many.many * (v * v) ≡ c.loop-many.many * (w * w) = ap (λ v. c.loop-many.many * (v * v)) c.state-count-states.ensures in
+    let e : c.loop-many.many * (v * v) ≡ c.loop-many.many * (w * w) = ap (λ v. c.loop-many.many * (v * v)) c.state_count-states.ensures in
     let f = ap (λ a. a * (w * w)) c.loop-many.invariant.1 in
     let at = c.loop-many.invariant.3 in
     omega arith
 
-pub overflow-add-many : goal.overflow-add-many
-overflow-add-many g c =
+pub overflow_add-many : goal.overflow_add-many
+overflow_add-many g c =
     let n = (g.T.Trellis.meaning c.args.t.now).stages in
     let few = (g.T.Trellis.lawful c.args.t.now).few_stages in
     let is = c.loop-many.invariant.1 in
     let t = levels_take n c.loop-many.level in
     omega arith
 
-pub overflow-add-level : goal.overflow-add-level
-overflow-add-level g c = omega arith
+pub overflow_add-level : goal.overflow_add-level
+overflow_add-level g c = omega arith
 
 pub pairs-requires : goal.pairs-requires
 pairs-requires g c =
     let w = g.T.Trellis.states in
     let n = (g.T.Trellis.meaning c.args.t.now).stages in
     let l = c.loop-many.level in
-    let v = c.state-count-states.result in
+    let v = c.state_count-states.result in
     let few = (g.T.Trellis.lawful c.args.t.now).few_stages in
     let is = c.loop-many.invariant.1 in
     let r = room_level n l (w * w) few (omega arith) in
-    let e : c.loop-many.many * (v * v) ≡ c.loop-many.many * (w * w) = ap (λ v. c.loop-many.many * (v * v)) c.state-count-states.ensures in
+    let e : c.loop-many.many * (v * v) ≡ c.loop-many.many * (w * w) = ap (λ v. c.loop-many.many * (v * v)) c.state_count-states.ensures in
     let f = ap (λ a. a * (w * w)) c.loop-many.invariant.1 in
     let at = c.loop-many.invariant.3 in
-    let h : (c.loop-many.many + 1) / 2 * (v * v) ≡ level_size n (suc l) * (w * w) = ap (λ v. (c.loop-many.many + 1) / 2 * (v * v)) c.state-count-states.ensures ∙ ap (λ a. (a + 1) / 2 * (w * w)) is ∙ ap (λ a. a * (w * w)) (sym (size_suc n l)) in
+    let h : (c.loop-many.many + 1) / 2 * (v * v) ≡ level_size n (suc l) * (w * w) = ap (λ v. (c.loop-many.many + 1) / 2 * (v * v)) c.state_count-states.ensures ∙ ap (λ a. (a + 1) / 2 * (w * w)) is ∙ ap (λ a. a * (w * w)) (sym (size_suc n l)) in
     let fw = (g.T.Trellis.lawful c.args.t.now).few_states in
-    let q = c.state-count-states.ensures in
+    let q = c.state_count-states.ensures in
     record { few = omega arith; room = omega arith; apart = omega arith }
 
 pub loop-many-preserved : goal.loop-many-preserved
@@ -90,8 +90,8 @@ loop-many-preserved g c =
     let w = g.T.Trellis.states in
     let n = m.stages in
     let l = c.loop-many.level in
-    let v = c.state-count-states.result in
-    let q = c.state-count-states.ensures in
+    let v = c.state_count-states.result in
+    let q = c.state_count-states.ensures in
     let many = c.loop-many.many in
     let old = c.loop-many.table in
     let new = c.pairs.new.table in

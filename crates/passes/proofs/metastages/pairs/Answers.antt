@@ -6,23 +6,23 @@ use Rattle.passes.proofs.Rows.{row_under, row_more, square_low, two_under}
 use Rattle.passes.proofs.Rooms.{entry_room}
 use Rattle.passes.proofs.metastages.pairs.Goals as goal
 
-pub overflow-mul-square : goal.overflow-mul-square
-overflow-mul-square g c = let a = square_low c.args.states c.requires.few in omega arith
+pub overflow_mul-square : goal.overflow_mul-square
+overflow_mul-square g c = let a = square_low c.args.states c.requires.few in omega arith
 
 pub loop-j-init : goal.loop-j-init
 loop-j-init g c = (λ p h. refl, λ j s t h. absurd (omega arith))
 
-pub overflow-mul-left-in-loop-j : goal.overflow-mul-left-in-loop-j
-overflow-mul-left-in-loop-j g c = let u = two_under c.loop-j.j c.args.many (c.args.states * c.args.states) (omega arith) in omega arith
+pub overflow_mul-left-in-loop-j : goal.overflow_mul-left-in-loop-j
+overflow_mul-left-in-loop-j g c = let u = two_under c.loop-j.j c.args.many (c.args.states * c.args.states) (omega arith) in omega arith
 
-pub overflow-add-left : goal.overflow-add-left
-overflow-add-left g c = let u = two_under c.loop-j.j c.args.many (c.args.states * c.args.states) (omega arith) in omega arith
+pub overflow_add-left : goal.overflow_add-left
+overflow_add-left g c = let u = two_under c.loop-j.j c.args.many (c.args.states * c.args.states) (omega arith) in omega arith
 
-pub overflow-add-left-in-loop-j : goal.overflow-add-left-in-loop-j
-overflow-add-left-in-loop-j g c = let u = two_under c.loop-j.j c.args.many (c.args.states * c.args.states) (omega arith) in omega arith
+pub overflow_add-left-in-loop-j : goal.overflow_add-left-in-loop-j
+overflow_add-left-in-loop-j g c = let u = two_under c.loop-j.j c.args.many (c.args.states * c.args.states) (omega arith) in omega arith
 
-pub overflow-add-to : goal.overflow-add-to
-overflow-add-to g c = let u = row_under c.loop-j.j ((c.args.many + 1) / 2) (c.args.states * c.args.states) (omega arith) in omega arith
+pub overflow_add-to : goal.overflow_add-to
+overflow_add-to g c = let u = row_under c.loop-j.j ((c.args.many + 1) / 2) (c.args.states * c.args.states) (omega arith) in omega arith
 
 pub product-requires : goal.product-requires
 product-requires g c =

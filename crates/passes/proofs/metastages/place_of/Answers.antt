@@ -7,11 +7,11 @@ use Rattle.passes.proofs.metastages.place_of.Goals as goal
 pub loop-l-init : goal.loop-l-init
 loop-l-init c = (sym (start_zero c.args.stages), sym (size_zero c.args.stages))
 
-pub overflow-add-begin : goal.overflow-add-begin
-overflow-add-begin c = let t = levels_take c.args.stages c.loop-l.l in omega arith
+pub overflow_add-begin : goal.overflow_add-begin
+overflow_add-begin c = let t = levels_take c.args.stages c.loop-l.l in omega arith
 
-pub overflow-add-many : goal.overflow-add-many
-overflow-add-many c = let t = levels_take c.args.stages c.loop-l.l in omega arith
+pub overflow_add-many : goal.overflow_add-many
+overflow_add-many c = let t = levels_take c.args.stages c.loop-l.l in omega arith
 
 pub loop-l-preserved : goal.loop-l-preserved
 loop-l-preserved c =
@@ -25,18 +25,18 @@ loop-l-preserved c =
       ap (λ x. (x + 1) / 2) b ∙ sym (size_suc n l) ∙ ap (level_size n) up,
     )
 
-pub overflow-add-result : goal.overflow-add-result
-overflow-add-result c = let t = levels_take c.args.stages c.loop-l.l in omega arith
+pub overflow_add-result : goal.overflow_add-result
+overflow_add-result c = let t = levels_take c.args.stages c.loop-l.l in omega arith
 
-pub overflow-mul-result-2 : goal.overflow-mul-result-2
-overflow-mul-result-2 c =
+pub overflow_mul-result-2 : goal.overflow_mul-result-2
+overflow_mul-result-2 c =
     let t = levels_take c.args.stages c.loop-l.l in
     let q = square_low c.args.states (omega arith) in
     let r = rows (c.loop-l.begin + c.args.j) 65536 (c.args.states * c.args.states) (omega arith) in
     omega arith
 
-pub overflow-add-result-2 : goal.overflow-add-result-2
-overflow-add-result-2 c =
+pub overflow_add-result-2 : goal.overflow_add-result-2
+overflow_add-result-2 c =
     let e : c.loop-l.l ≡ c.args.level = omega arith in
     let f = ap (λ a. (a + c.args.j) * (c.args.states * c.args.states)) (c.loop-l.invariant.0 ∙ ap (level_start c.args.stages) e) in
     omega arith

@@ -9,17 +9,17 @@ use Rattle.passes.proofs.metastages.product.Goals as goal
 pub loop-s-init : goal.loop-s-init
 loop-s-init g c = (λ p h. refl, λ s t h k. absurd (omega arith))
 
-pub overflow-mul-s : goal.overflow-mul-s
-overflow-mul-s g c = let u = row_under c.loop-s.s c.args.states c.args.states (omega arith) in omega arith
+pub overflow_mul-s : goal.overflow_mul-s
+overflow_mul-s g c = let u = row_under c.loop-s.s c.args.states c.args.states (omega arith) in omega arith
 
-pub overflow-add-left : goal.overflow-add-left
-overflow-add-left g c = let u = row_under c.loop-s.s c.args.states c.args.states (omega arith) in omega arith
+pub overflow_add-left : goal.overflow_add-left
+overflow_add-left g c = let u = row_under c.loop-s.s c.args.states c.args.states (omega arith) in omega arith
 
-pub overflow-mul-s-in-loop-s : goal.overflow-mul-s-in-loop-s
-overflow-mul-s-in-loop-s g c = let u = row_under c.loop-s.s c.args.states c.args.states (omega arith) in omega arith
+pub overflow_mul-s-in-loop-s : goal.overflow_mul-s-in-loop-s
+overflow_mul-s-in-loop-s g c = let u = row_under c.loop-s.s c.args.states c.args.states (omega arith) in omega arith
 
-pub overflow-add-to : goal.overflow-add-to
-overflow-add-to g c = let u = row_under c.loop-s.s c.args.states c.args.states (omega arith) in omega arith
+pub overflow_add-to : goal.overflow_add-to
+overflow_add-to g c = let u = row_under c.loop-s.s c.args.states c.args.states (omega arith) in omega arith
 
 pub column-requires : goal.column-requires
 column-requires g c =

@@ -16,15 +16,15 @@ loop-j-init g c =
     let o = g.W.Weights.ops in
     let m = g.T.Trellis.meaning c.args.t.now in
     let n = c.stages-stages.result in
-    let v = c.state-count-states.result in
-    let e = c.single-blocks.new.ends in
-    let tb = c.lay-stages.new.table in
+    let v = c.state_count-states.result in
+    let e = c.single_blocks.new.ends in
+    let tb = c.lay_stages.new.table in
     let is_n = c.stages-stages.ensures in
     let some = (g.T.Trellis.lawful c.args.t.now).some_stages in
-    let stand : Stages o v m 0 tb = subst (λ w. Stages o w m 0 tb) (sym c.state-count-states.ensures) c.lay-stages.ensures.made in
-    let all = opens_all e (n - 1) (λ i p h. let x = c.single-blocks.ensures.first i (omega arith) in omega arith) in (
-      single n e (omega arith) (omega arith) c.single-blocks.ensures.first c.single-blocks.ensures.last,
-      stages_stand g.met.W.Semiring.laws v m n (omega arith) e tb stand c.single-blocks.ensures.first,
+    let stand : Stages o v m 0 tb = subst (λ w. Stages o w m 0 tb) (sym c.state_count-states.ensures) c.lay_stages.ensures.made in
+    let all = opens_all e (n - 1) (λ i p h. let x = c.single_blocks.ensures.first i (omega arith) in omega arith) in (
+      single n e (omega arith) (omega arith) c.single_blocks.ensures.first c.single_blocks.ensures.last,
+      stages_stand g.met.W.Semiring.laws v m n (omega arith) e tb stand c.single_blocks.ensures.first,
       omega arith,
       refl,
     )
@@ -40,13 +40,13 @@ returns-then-order-stages g c =
 pub replace-requires : goal.replace-requires
 replace-requires g c =
     let n = c.stages-stages.result in
-    let v = c.state-count-states.result in
+    let v = c.state_count-states.result in
     let e = c.loop-j.ends in
     let j = get_or c.args.order.now c.loop-j.j-index 0 in
-    let p = open_parts n e j (sym c.if-not-is-open.ensures) in
+    let p = open_parts n e j (sym c.if-not-is_open.ensures) in
     let r = places n e c.loop-j.invariant.0 j p.0 p.1 p.2 (v * v) in
     let room : n * (v * v) + v * v ≡ (g.T.Trellis.meaning c.args.t.now).stages * (g.T.Trellis.states * g.T.Trellis.states) + g.T.Trellis.states * g.T.Trellis.states =
-    ap (λ n. n * (v * v) + v * v) c.stages-stages.ensures ∙ ap (λ v. (g.T.Trellis.meaning c.args.t.now).stages * (v * v) + v * v) c.state-count-states.ensures in
+    ap (λ n. n * (v * v) + v * v) c.stages-stages.ensures ∙ ap (λ v. (g.T.Trellis.meaning c.args.t.now).stages * (v * v) + v * v) c.state_count-states.ensures in
     (r.0, r.1, omega arith)
 
 pub close-requires : goal.close-requires
@@ -54,7 +54,7 @@ close-requires g c =
     let n = c.stages-stages.result in
     let e = c.loop-j.ends in
     let j = get_or c.args.order.now c.loop-j.j-index 0 in
-    let p = open_parts n e j (sym c.if-not-is-open.ensures) in
+    let p = open_parts n e j (sym c.if-not-is_open.ensures) in
     let sound = c.loop-j.invariant.0 in
     let f = first_low n e sound j p.0 p.1 p.2 in
     record { boundary = (p.0, p.1); sound = (omega arith, p.2, last_low n e sound j p.0 p.1 p.2); room = sound.long }
@@ -65,20 +65,20 @@ loop-j-preserved g c =
     let laws = g.met.W.Semiring.laws in
     let m = g.T.Trellis.meaning c.args.t.now in
     let n = c.stages-stages.result in
-    let v = c.state-count-states.result in
+    let v = c.state_count-states.result in
     let e = c.loop-j.ends in
     let order = c.args.order.now in
     let i = c.loop-j.j-index in
     let j = get_or order i 0 in
     let d = made_one n e j in
-    let here : is_open n e j ≡ true = sym c.if-not-is-open.ensures in
+    let here : is_open n e j ≡ true = sym c.if-not-is_open.ensures in
     let p = open_parts n e j here in
     let sound = c.loop-j.invariant.0 in
     let is_n = c.stages-stages.ensures in
     let is : d ≡ c.close.new.ends = sym c.close.ensures in
     let ceiling = g.T.Trellis.ceiling in
     let bits = g.T.Trellis.bits c.args.t.now in
-    let law : Lawful v ceiling bits m = subst (λ w. Lawful w ceiling bits m) (sym c.state-count-states.ensures) (g.T.Trellis.lawful c.args.t.now) in
+    let law : Lawful v ceiling bits m = subst (λ w. Lawful w ceiling bits m) (sym c.state_count-states.ensures) (g.T.Trellis.lawful c.args.t.now) in
     let stands : Standing o v m n d c.replace.new.table =
     one_stands laws v m n (omega arith) law e sound j p.0 p.1 p.2 c.loop-j.table c.replace.new.table c.loop-j.invariant.1 c.replace.ensures.kept c.replace.ensures.made in
     let shut = at_boundary n e sound j p.0 p.1 p.2 in
@@ -91,17 +91,17 @@ loop-j-preserved g c =
       c.loop-j.invariant.3 ∙ follows_on n e order i (omega arith) here ∙ ap (λ d. follows n d (drop (i + 1) order)) is,
     )
 
-pub returns-then-not-is-open : goal.returns-then-not-is-open
-returns-then-not-is-open g c =
+pub returns-then-not-is_open : goal.returns-then-not-is_open
+returns-then-not-is_open g c =
     let n = c.stages-stages.result in
     let order = c.args.order.now in
     let i = c.loop-j.j-index in
-    let here : is_open n c.loop-j.ends (get_or order i 0) ≡ false = sym c.if-not-is-open.ensures in
+    let here : is_open n c.loop-j.ends (get_or order i 0) ≡ false = sym c.if-not-is_open.ensures in
     let some = (g.T.Trellis.lawful c.args.t.now).some_stages in
     let is_n = c.stages-stages.ensures in
-    let begun = c.single-blocks.new.ends in
-    let sound = single n begun (omega arith) (omega arith) c.single-blocks.ensures.first c.single-blocks.ensures.last in
-    let all : (k : ℕ) → k < n → 0 < ends_at begun k = λ k h. let x = c.single-blocks.ensures.first k h in omega arith in
+    let begun = c.single_blocks.new.ends in
+    let sound = single n begun (omega arith) (omega arith) c.single_blocks.ensures.first c.single_blocks.ensures.last in
+    let all : (k : ℕ) → k < n → 0 < ends_at begun k = λ k h. let x = c.single_blocks.ensures.first k h in omega arith in
     sym (cond-false _ _ _
     (ap (λ n. complete_order n order) (sym c.stages-stages.ensures) ∙ complete_is n begun order sound all (omega arith)
     ∙ c.loop-j.invariant.3 ∙ follows_stops n c.loop-j.ends order i (omega arith) here))
@@ -112,23 +112,23 @@ returns g c =
     let m = g.T.Trellis.meaning c.args.t.now in
     let w = g.T.Trellis.states in
     let n = c.stages-stages.result in
-    let v = c.state-count-states.result in
+    let v = c.state_count-states.result in
     let order = c.args.order.now in
     let e = c.loop-j.ends in
     let tb = c.loop-j.table in
     let some = (g.T.Trellis.lawful c.args.t.now).some_stages in
     let is_n = c.stages-stages.ensures in
-    let begun = c.single-blocks.new.ends in
-    let sound = single n begun (omega arith) (omega arith) c.single-blocks.ensures.first c.single-blocks.ensures.last in
-    let all : (k : ℕ) → k < n → 0 < ends_at begun k = λ k h. let x = c.single-blocks.ensures.first k h in omega arith in
+    let begun = c.single_blocks.new.ends in
+    let sound = single n begun (omega arith) (omega arith) c.single_blocks.ensures.first c.single_blocks.ensures.last in
+    let all : (k : ℕ) → k < n → 0 < ends_at begun k = λ k h. let x = c.single_blocks.ensures.first k h in omega arith in
     let left = c.loop-j.invariant.2 in
     let whole : ends_at e 0 ≡ m.stages = one_left n e c.loop-j.invariant.0 (omega arith) ∙ c.stages-stages.ensures in
-    let stands : Standing o w m n e tb = subst (λ v. Standing o v m n e tb) c.state-count-states.ensures c.loop-j.invariant.1 in
+    let stands : Standing o w m n e tb = subst (λ v. Standing o v m n e tb) c.state_count-states.ensures c.loop-j.invariant.1 in
     let complete : complete_order m.stages order ≡ true =
     ap (λ n. complete_order n order) (sym c.stages-stages.ensures) ∙ complete_is n begun order sound all (omega arith)
     ∙ c.loop-j.invariant.3 ∙ follows_ends n e order c.loop-j.j-index (omega arith) in
     ap Some
-    (c.first-to-last.ensures
+    (c.first_to_last.ensures
     ∙ last_metastage g.met.W.Semiring.laws m (g.T.Trellis.lawful c.args.t.now) tb 0
     (λ x y small little.
     let zero_row = zero-mul (w * w) in

@@ -13,33 +13,33 @@ pub loop-i-init : goal.loop-i-init
 unfolding gathered
 loop-i-init g c =
     let w = g.T.Trellis.states in
-    let e : c.state-count-states.result * c.state-count-states.result ≡ w * w = ap (λ v. v * v) c.state-count-states.ensures in
+    let e : c.state_count-states.result * c.state_count-states.result ≡ w * w = ap (λ v. v * v) c.state_count-states.ensures in
     (λ p h. refl, λ x y h k. let u = row_under x w w h in c.clear.ensures.clear (x * w + y) (omega arith))
 
-pub unreachable-requires-in-default-edge : goal.unreachable-requires-in-default-edge
-unreachable-requires-in-default-edge g c =
+pub unreachable-requires-in_default-edge : goal.unreachable-requires-in_default-edge
+unreachable-requires-in_default-edge g c =
     let m = g.T.Trellis.meaning c.args.t.now in
     let n = count_is m c.args.k c.requires.stage c.in-Some.count (sym c.in-Some.ensures) in
-    some_edge m c.args.k c.requires.stage c.loop-i.i (omega arith) (sym c.in-default-edge.ensures)
+    some_edge m c.args.k c.requires.stage c.loop-i.i (omega arith) (sym c.in_default-edge.ensures)
 
-pub overflow-mul-e : goal.overflow-mul-e
-overflow-mul-e g c =
-    let h = edge_place (g.T.Trellis.meaning c.args.t.now) c.args.k c.requires.stage (g.T.Trellis.lawful c.args.t.now) c.loop-i.i c.in-Some-edge.e (sym c.in-Some-edge.ensures) _ c.args.to (length c.args.table.now) c.state-count-states.ensures c.requires.room in
+pub overflow_mul-e : goal.overflow_mul-e
+overflow_mul-e g c =
+    let h = edge_place (g.T.Trellis.meaning c.args.t.now) c.args.k c.requires.stage (g.T.Trellis.lawful c.args.t.now) c.loop-i.i c.in-Some-edge.e (sym c.in-Some-edge.ensures) _ c.args.to (length c.args.table.now) c.state_count-states.ensures c.requires.room in
     omega arith
 
-pub overflow-add-e : goal.overflow-add-e
-overflow-add-e g c =
-    let h = edge_place (g.T.Trellis.meaning c.args.t.now) c.args.k c.requires.stage (g.T.Trellis.lawful c.args.t.now) c.loop-i.i c.in-Some-edge.e (sym c.in-Some-edge.ensures) _ c.args.to (length c.args.table.now) c.state-count-states.ensures c.requires.room in
+pub overflow_add-e : goal.overflow_add-e
+overflow_add-e g c =
+    let h = edge_place (g.T.Trellis.meaning c.args.t.now) c.args.k c.requires.stage (g.T.Trellis.lawful c.args.t.now) c.loop-i.i c.in-Some-edge.e (sym c.in-Some-edge.ensures) _ c.args.to (length c.args.table.now) c.state_count-states.ensures c.requires.room in
     omega arith
 
-pub overflow-add-to : goal.overflow-add-to
-overflow-add-to g c =
-    let h = edge_place (g.T.Trellis.meaning c.args.t.now) c.args.k c.requires.stage (g.T.Trellis.lawful c.args.t.now) c.loop-i.i c.in-Some-edge.e (sym c.in-Some-edge.ensures) _ c.args.to (length c.args.table.now) c.state-count-states.ensures c.requires.room in
+pub overflow_add-to : goal.overflow_add-to
+overflow_add-to g c =
+    let h = edge_place (g.T.Trellis.meaning c.args.t.now) c.args.k c.requires.stage (g.T.Trellis.lawful c.args.t.now) c.loop-i.i c.in-Some-edge.e (sym c.in-Some-edge.ensures) _ c.args.to (length c.args.table.now) c.state_count-states.ensures c.requires.room in
     omega arith
 
 pub relax-requires : goal.relax-requires
 relax-requires g c =
-    let h = edge_place (g.T.Trellis.meaning c.args.t.now) c.args.k c.requires.stage (g.T.Trellis.lawful c.args.t.now) c.loop-i.i c.in-Some-edge.e (sym c.in-Some-edge.ensures) _ c.args.to (length c.args.table.now) c.state-count-states.ensures c.requires.room in
+    let h = edge_place (g.T.Trellis.meaning c.args.t.now) c.args.k c.requires.stage (g.T.Trellis.lawful c.args.t.now) c.loop-i.i c.in-Some-edge.e (sym c.in-Some-edge.ensures) _ c.args.to (length c.args.table.now) c.state_count-states.ensures c.requires.room in
     omega arith
 
 pub loop-i-preserved : goal.loop-i-preserved
@@ -53,7 +53,7 @@ loop-i-preserved g c =
     let low = edge_low m c.args.k c.requires.stage (g.T.Trellis.lawful c.args.t.now) c.loop-i.i c.in-Some-edge.e told in
     let u = row_under c.in-Some-edge.e.from w w low.from_low in
     let r = low.to_low in
-    let q : e.from * c.state-count-states.result ≡ e.from * w = ap (λ v. c.in-Some-edge.e.from * v) c.state-count-states.ensures in
+    let q : e.from * c.state_count-states.result ≡ e.from * w = ap (λ v. c.in-Some-edge.e.from * v) c.state_count-states.ensures in
     let worth : get_or c.costs.new.out c.loop-i.i 0 ≡ e.cost = c.costs.ensures.laid c.loop-i.i c.in-Some-edge.e told in
     let there = c.args.to + (e.from * w + e.to) in
     let is : c.relax.new.table ≡ set c.loop-i.table there (o.join (get_or c.loop-i.table there o.none) (o.value e.cost)) =
@@ -73,7 +73,7 @@ returns g c =
     let o = g.W.Weights.ops in
     let w = g.T.Trellis.states in
     let m = g.T.Trellis.meaning c.args.t.now in
-    let e : c.state-count-states.result * c.state-count-states.result ≡ w * w = ap (λ v. v * v) c.state-count-states.ensures in
+    let e : c.state_count-states.result * c.state_count-states.result ≡ w * w = ap (λ v. v * v) c.state_count-states.ensures in
     let n = count_is m c.args.k c.requires.stage c.in-Some.count (sym c.in-Some.ensures) in
     record {
       kept = λ p h. c.loop-i.invariant.0 p h ∙ c.clear.ensures.kept p (⊎_elim (λ l. inl (omega arith)) (λ l. inr (omega arith)) h);

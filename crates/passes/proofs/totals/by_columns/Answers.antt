@@ -11,7 +11,7 @@ returns g c =
     let m = g.T.Trellis.meaning c.args.t.now in
     let law = g.T.Trellis.lawful c.args.t.now in
     let tb = c.args.table.now in
-    let at : c.stages.result * c.state-count.result ≡ m.stages * w = ap (λ v. c.stages.result * v) c.state-count.ensures ∙ ap (λ n. n * w) c.stages.ensures in
-    c.last-states.ensures
+    let at : c.stages.result * c.state_count.result ≡ m.stages * w = ap (λ v. c.stages.result * v) c.state_count.ensures ∙ ap (λ n. n * w) c.stages.ensures in
+    c.last_states.ensures
     ∙ last_column laws m law tb _
     (λ s h. ap (λ a. get_or tb (a + s) o.none) at ∙ c.requires.made m.stages s (omega arith) h ∙ (columns_are_joins laws w _ _ m law).forth m.stages s (omega arith) h)

@@ -16,20 +16,20 @@ pub loop-i-init : goal.loop-i-init
 unfolding gathered
 loop-i-init g c = (λ p h. refl, λ s h. c.clear.ensures.clear s (omega arith))
 
-pub unreachable-requires-in-default-edge : goal.unreachable-requires-in-default-edge
-unreachable-requires-in-default-edge g c =
+pub unreachable-requires-in_default-edge : goal.unreachable-requires-in_default-edge
+unreachable-requires-in_default-edge g c =
     let m = g.T.Trellis.meaning c.args.t.now in
     let n = count_is m c.args.k c.requires.stage c.in-Some.count (sym c.in-Some.ensures) in
-    some_edge m c.args.k c.requires.stage c.loop-i.i (omega arith) (sym c.in-default-edge.ensures)
+    some_edge m c.args.k c.requires.stage c.loop-i.i (omega arith) (sym c.in_default-edge.ensures)
 
-pub overflow-add-from : goal.overflow-add-from
-overflow-add-from g c =
+pub overflow_add-from : goal.overflow_add-from
+overflow_add-from g c =
     let low = edge_low (g.T.Trellis.meaning c.args.t.now) c.args.k c.requires.stage (g.T.Trellis.lawful c.args.t.now) c.loop-i.i c.in-Some-edge.e (sym c.in-Some-edge.ensures) in
     let f = low.from_low in
     omega arith
 
-pub overflow-add-to : goal.overflow-add-to
-overflow-add-to g c =
+pub overflow_add-to : goal.overflow_add-to
+overflow_add-to g c =
     let low = edge_low (g.T.Trellis.meaning c.args.t.now) c.args.k c.requires.stage (g.T.Trellis.lawful c.args.t.now) c.loop-i.i c.in-Some-edge.e (sym c.in-Some-edge.ensures) in
     let f = low.to_low in
     omega arith

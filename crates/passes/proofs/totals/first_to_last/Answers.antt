@@ -13,22 +13,22 @@ loop-s-init g c =
     let m = g.T.Trellis.meaning c.args.t.now in
     c.none-sum.ensures ∙ sym (below_zero o (λ s. cond (m.first s) (in_last o w m c.args.table.now (c.args.at + s * w)) o.none))
 
-pub overflow-mul-s : goal.overflow-mul-s
-overflow-mul-s g c =
+pub overflow_mul-s : goal.overflow_mul-s
+overflow_mul-s g c =
     let u = row_under c.loop-s.s g.T.Trellis.states g.T.Trellis.states (omega arith) in
-    let q = ap (λ v. c.loop-s.s * v) c.state-count-states.ensures in
+    let q = ap (λ v. c.loop-s.s * v) c.state_count-states.ensures in
     omega arith
 
-pub overflow-add-at : goal.overflow-add-at
-overflow-add-at g c =
+pub overflow_add-at : goal.overflow_add-at
+overflow_add-at g c =
     let u = row_under c.loop-s.s g.T.Trellis.states g.T.Trellis.states (omega arith) in
-    let q = ap (λ v. c.loop-s.s * v) c.state-count-states.ensures in
+    let q = ap (λ v. c.loop-s.s * v) c.state_count-states.ensures in
     omega arith
 
-pub last-states-x-requires : goal.last-states-x-requires
-last-states-x-requires g c =
+pub last_states-x-requires : goal.last_states-x-requires
+last_states-x-requires g c =
     let u = row_under c.loop-s.s g.T.Trellis.states g.T.Trellis.states (omega arith) in
-    let q = ap (λ v. c.loop-s.s * v) c.state-count-states.ensures in
+    let q = ap (λ v. c.loop-s.s * v) c.state_count-states.ensures in
     omega arith
 
 pub loop-s-preserved : goal.loop-s-preserved
@@ -41,8 +41,8 @@ loop-s-preserved g c =
     let f : ℕ → _ = λ s. cond (m.first s) (in_last o w m tb (c.args.at + s * w)) o.none in
     let value : c.if-first.x ≡ f s =
     elim c.if-first.branch [
-      | then-first u ↦ u.x-is ∙ u.last-states-x.ensures
-          ∙ ap (λ v. in_last o w m tb (c.args.at + s * v)) c.state-count-states.ensures
+      | then-first u ↦ u.x-is ∙ u.last_states-x.ensures
+          ∙ ap (λ v. in_last o w m tb (c.args.at + s * v)) c.state_count-states.ensures
           ∙ ap (λ b. cond b (in_last o w m tb (c.args.at + s * w)) o.none) (sym u.if-first.true ∙ c.first.ensures)
       | else-first u ↦ u.x-is ∙ u.none-x.ensures ∙ ap (λ b. cond b (in_last o w m tb (c.args.at + s * w)) o.none) (sym u.if-first.false ∙ c.first.ensures)
     ] in

@@ -10,9 +10,9 @@ loop-k-init g c =
     let w = g.T.Trellis.states in
     (inl (omega arith), λ s h. c.start.ensures.made s h ∙ sym (start_forward g.met.W.Semiring.laws w m s h))
 
-pub carry-stage-requires : goal.carry-stage-requires
-carry-stage-requires g c =
-    let q = c.state-count-states.ensures in
+pub carry_stage-requires : goal.carry_stage-requires
+carry_stage-requires g c =
+    let q = c.state_count-states.ensures in
     record {
       stage = omega arith;
       room = (⊎_elim (λ h. omega arith) (λ h. omega arith) c.loop-k.invariant.0, ⊎_elim (λ h. omega arith) (λ h. omega arith) c.loop-k.invariant.0);
@@ -23,13 +23,13 @@ pub loop-k-preserved : goal.loop-k-preserved
 loop-k-preserved g c =
     let m = g.T.Trellis.meaning c.args.t.now in
     let w = g.T.Trellis.states in
-    let q = c.state-count-states.ensures in (
+    let q = c.state_count-states.ensures in (
       ⊎_elim (λ h. inr (omega arith)) (λ h. inl (omega arith)) c.loop-k.invariant.0,
-      λ s h. c.carry-stage.ensures.made s h ∙ column_by_edges g.met.W.Semiring.laws m (g.T.Trellis.lawful c.args.t.now) c.loop-k.columns c.loop-k.from c.loop-k.k (omega arith) c.loop-k.invariant.1 s,
+      λ s h. c.carry_stage.ensures.made s h ∙ column_by_edges g.met.W.Semiring.laws m (g.T.Trellis.lawful c.args.t.now) c.loop-k.columns c.loop-k.from c.loop-k.k (omega arith) c.loop-k.invariant.1 s,
     )
 
-pub last-states-requires : goal.last-states-requires
-last-states-requires g c = ⊎_elim (λ h. omega arith) (λ h. omega arith) c.loop-k.invariant.0
+pub last_states-requires : goal.last_states-requires
+last_states-requires g c = ⊎_elim (λ h. omega arith) (λ h. omega arith) c.loop-k.invariant.0
 
 pub returns : goal.returns
 returns g c =
@@ -37,5 +37,5 @@ returns g c =
     let w = g.T.Trellis.states in
     let m = g.T.Trellis.meaning c.args.t.now in
     let e : c.loop-k.k ≡ m.stages = omega arith in
-    c.last-states.ensures
+    c.last_states.ensures
     ∙ last_column g.met.W.Semiring.laws m (g.T.Trellis.lawful c.args.t.now) c.loop-k.columns c.loop-k.from (λ s h. c.loop-k.invariant.1 s h ∙ ap (λ n. path_join o (before w m n s)) e)

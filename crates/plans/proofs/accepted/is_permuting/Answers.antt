@@ -15,12 +15,12 @@ tested v g z r h e =
 
 pub returns-then-g-eq1 : goal.returns-then-g-eq1
 returns-then-g-eq1 c =
-    let one : eqb c.common-divisor-g.result 1 ≡ true = eq-eqb _ 1 c.if-g-eq1.true in
-    let t = tested c.args.v c.common-divisor-g.result c.vanishes-z.result c.if-not-in-range.ensures.value c.common-divisor-g.ensures.value c.vanishes-z.ensures.value in
+    let one : eqb c.common_divisor-g.result 1 ≡ true = eq-eqb _ 1 c.if-g-eq1.true in
+    let t = tested c.args.v c.common_divisor-g.result c.vanishes-z.result c.if-not-in_range.ensures.value c.common_divisor-g.ensures.value c.vanishes-z.ensures.value in
     record { value = ap (λ b. b && c.vanishes-z.result) (sym one) ∙ t }
 
 pub returns-else-g-eq1 : goal.returns-else-g-eq1
 returns-else-g-eq1 c =
-    let more : eqb c.common-divisor-g.result 1 ≡ false = ne_eqb _ 1 c.if-g-eq1.false in
-    let t = tested c.args.v c.common-divisor-g.result c.vanishes-z.result c.if-not-in-range.ensures.value c.common-divisor-g.ensures.value c.vanishes-z.ensures.value in
+    let more : eqb c.common_divisor-g.result 1 ≡ false = ne_eqb _ 1 c.if-g-eq1.false in
+    let t = tested c.args.v c.common_divisor-g.result c.vanishes-z.result c.if-not-in_range.ensures.value c.common_divisor-g.ensures.value c.vanishes-z.ensures.value in
     record { value = more ∙ ap (λ b. b && c.vanishes-z.result) (sym more) ∙ t }

@@ -13,4 +13,4 @@ pub returns-then-b-eq0 : goal.returns-then-b-eq0
 returns-then-b-eq0 t c = record { value = rw c.if-b-eq0.true (alone c.args.a) }
 
 pub returns-else-b-eq0 : goal.returns-else-b-eq0
-returns-else-b-eq0 t c = record { value = turn c.args.a c.args.b _ c.common-divisor.ensures.value }
+returns-else-b-eq0 t c = record { value = turn c.args.a c.args.b _ c.common_divisor.ensures.value }

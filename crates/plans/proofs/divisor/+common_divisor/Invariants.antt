@@ -1,4 +1,4 @@
 use Rattle.plans.proofs.divisor.+common_divisor.Given as goal
 
-abbrev pub decreases-common-divisor : goal.decreases-common-divisor
-decreases-common-divisor l = l.b
+abbrev pub decreases-common_divisor : goal.decreases-common_divisor
+decreases-common_divisor l = l.b

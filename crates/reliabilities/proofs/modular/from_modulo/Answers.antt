@@ -9,4 +9,4 @@ loop-b-init c = told_start reliability_modulo 65536 c.args.zeros.now c.args.ones
 
 pub loop-b-preserved : goal.loop-b-preserved
 loop-b-preserved c =
-    told_more reliability_modulo 65536 c.args.zeros.now c.args.ones.now c.loop-b.b c.loop-b.out _ c.loop-b.invariant (omega arith) (omega arith) (omega arith) (c.widened.ensures ∙ c.reliability-of.ensures)
+    told_more reliability_modulo 65536 c.args.zeros.now c.args.ones.now c.loop-b.b c.loop-b.out _ c.loop-b.invariant (omega arith) (omega arith) (omega arith) (c.widened.ensures ∙ c.reliability_of.ensures)

@@ -11,8 +11,8 @@ loop-k-init c = (refl, omega arith)
 
 pub loop-k-preserved : goal.loop-k-preserved
 loop-k-preserved c = (
-  c.with-coefficient-r.ensures.value _ c.loop-k.invariant.0 ∙ ap (λ b. value (remainder b)) (bits_more c.args.d.now c.loop-k.k),
-  c.with-coefficient-r.ensures.bound,
+  c.with_coefficient-r.ensures.value _ c.loop-k.invariant.0 ∙ ap (λ b. value (remainder b)) (bits_more c.args.d.now c.loop-k.k),
+  c.with_coefficient-r.ensures.bound,
 )
 
 pub returns : goal.returns

@@ -10,7 +10,7 @@ more : (d t out : List ℕ) (n y : ℕ) → n < length t → y ≡ read d (8 * n
 more d t out n y h e inv = rw (e, inv) (counted_more (λ i. read d (8 * i) 8) n t h)
 
 pub loop-i-preserved : goal.loop-i-preserved
-loop-i-preserved c = more c.args.d.now c.args.out.now c.loop-i.out c.loop-i.i c.byte-at.result (omega arith) c.byte-at.ensures.value c.loop-i.invariant
+loop-i-preserved c = more c.args.d.now c.args.out.now c.loop-i.out c.loop-i.i c.byte_at.result (omega arith) c.byte_at.ensures.value c.loop-i.invariant
 
 pub returns : goal.returns
 unfolding decided_payload

@@ -16,8 +16,8 @@ double-requires c = (
   λ w h. omega (arith, c.loop.invariant.1 w (omega arith), slot_low 0 w c.loop.counter (omega arith)),
 )
 
-pub overflow-mul-size : goal.overflow-mul-size
-overflow-mul-size c = omega (arith, few c.loop.counter c.args.m c.loop-test.true c.requires)
+pub overflow_mul-size : goal.overflow_mul-size
+overflow_mul-size c = omega (arith, few c.loop.counter c.args.m c.loop-test.true c.requires)
 
 pub loop-preserved : goal.loop-preserved
 loop-preserved c =

@@ -11,8 +11,8 @@ paid c =
     let f : SFits w16 (get_or c.args.priors.now (c.args.at + c.loop-j.j) (pos 0)) = search rules in
     simp to_z-of_z at c.penalty-sum.ensures
 
-pub overflow-add-sum : goal.overflow-add-sum
-overflow-add-sum c =
+pub overflow_add-sum : goal.overflow_add-sum
+overflow_add-sum c =
     let p = penalties_low c.args.priors.now c.args.at c.args.word c.loop-j.j in
     let q = penalty_low (get_or c.args.priors.now (c.args.at + c.loop-j.j) (pos 0)) (bit c.args.word c.loop-j.j) in
     let r = paid c in

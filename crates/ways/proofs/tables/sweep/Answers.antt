@@ -10,16 +10,16 @@ returns g c =
     let o = g.W.Weights.ops in
     let w = g.T.Trellis.states in
     let m = g.T.Trellis.meaning c.args.t.now in
-    let v = c.state-count-states.result in
+    let v = c.state_count-states.result in
     let C = columns_size w m.stages in
-    let size : c.stages.result * v + v ≡ C = columns_are v w c.stages.result m.stages c.state-count-states.ensures c.stages.ensures in
+    let size : c.stages.result * v + v ≡ C = columns_are v w c.stages.result m.stages c.state_count-states.ensures c.stages.ensures in
     let base = 2 * (c.stages.result * v + v) in
-    let laid = c.lay-stages.new.table in
+    let laid = c.lay_stages.new.table in
     let forth = c.forward.new.table in
     let back = c.backward.new.table in
     record {
       base = omega arith;
-      stages = stages_kept o w m base C C forth back (stages_kept o w m base 0 C laid forth c.lay-stages.ensures.made c.forward.ensures.kept (omega arith)) c.backward.ensures.kept (omega arith);
+      stages = stages_kept o w m base C C forth back (stages_kept o w m base 0 C laid forth c.lay_stages.ensures.made c.forward.ensures.kept (omega arith)) c.backward.ensures.kept (omega arith);
       forth = forward_kept o w m C C forth back c.forward.ensures.made c.backward.ensures.kept (omega arith);
       back = c.backward.ensures.made;
     }

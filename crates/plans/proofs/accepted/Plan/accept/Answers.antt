@@ -1,4 +1,4 @@
-use Rattle.std.proofs.Common.{◌≡◌, Bool, true, false, cond, is_some, Some, None, Option, sym, refl, ap, ◌∙◌}
+use Rattle.std.proofs.Common.{◌≡◌, true, is_some, None, refl, ap}
 use Rattle.plans.specs.declared.values.PlanValues.{PlanValues}
 use Rattle.plans.specs.declared.refusals.Refusal.{Refusal}
 use Rattle.plans.specs.Plans.{plan_refusal, sized, grouped, permuting}
@@ -9,31 +9,31 @@ none : (v : PlanValues) → true ≡ sized v → true ≡ grouped v → true ≡
 unfolding plan_refusal
 none v s g p = rw (← s, ← g, ← p) refl
 
-pub returns-then-not-is-sized : goal.returns-then-not-is-sized
+pub returns-then-not-is_sized : goal.returns-then-not-is_sized
 unfolding plan_refusal
-returns-then-not-is-sized c =
-    record { cases = rw (← c.if-not-is-sized.ensures.value) refl; meaning = answered c.args.values }
+returns-then-not-is_sized c =
+    record { cases = rw (← c.if-not-is_sized.ensures.value) refl; meaning = answered c.args.values }
 
-pub returns-then-not-is-grouped : goal.returns-then-not-is-grouped
+pub returns-then-not-is_grouped : goal.returns-then-not-is_grouped
 unfolding plan_refusal
-returns-then-not-is-grouped c =
-    record { cases = rw (← c.if-not-is-sized.ensures.value, ← c.if-not-is-grouped.ensures.value) refl; meaning = answered c.args.values }
+returns-then-not-is_grouped c =
+    record { cases = rw (← c.if-not-is_sized.ensures.value, ← c.if-not-is_grouped.ensures.value) refl; meaning = answered c.args.values }
 
-pub returns-then-not-is-permuting : goal.returns-then-not-is-permuting
+pub returns-then-not-is_permuting : goal.returns-then-not-is_permuting
 unfolding plan_refusal
-returns-then-not-is-permuting c =
+returns-then-not-is_permuting c =
     record {
-      cases = rw (← c.if-not-is-sized.ensures.value, ← c.if-not-is-grouped.ensures.value, ← c.if-not-is-permuting.ensures.value) refl;
+      cases = rw (← c.if-not-is_sized.ensures.value, ← c.if-not-is_grouped.ensures.value, ← c.if-not-is_permuting.ensures.value) refl;
       meaning = answered c.args.values;
     }
 
-pub invariant-of-result : goal.invariant-of-result
-invariant-of-result c =
-    (ap (is_some {T = Refusal}) (none c.args.values c.if-not-is-sized.ensures.value c.if-not-is-grouped.ensures.value c.if-not-is-permuting.ensures.value), tt)
+pub invariant_of-result : goal.invariant_of-result
+invariant_of-result c =
+    record { accepted = ap (is_some {T = Refusal}) (none c.args.values c.if-not-is_sized.ensures.value c.if-not-is_grouped.ensures.value c.if-not-is_permuting.ensures.value) }
 
 pub returns : goal.returns
 returns c =
     record {
-      cases = (refl, none c.args.values c.if-not-is-sized.ensures.value c.if-not-is-grouped.ensures.value c.if-not-is-permuting.ensures.value);
+      cases = (refl, none c.args.values c.if-not-is_sized.ensures.value c.if-not-is_grouped.ensures.value c.if-not-is_permuting.ensures.value);
       meaning = answered c.args.values;
     }

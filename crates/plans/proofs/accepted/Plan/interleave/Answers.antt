@@ -1,7 +1,6 @@
-use Rattle.std.proofs.Common.{◌≡◌, ℕ, ◌+◌, ◌*◌, ◌%◌, ◌^◌, ◌<◌, ◌≤◌, Some, None, sym, refl, ap, ◌∙◌, mul-le-mul, arith}
+use Rattle.std.proofs.Common.{ℕ, ◌+◌, ◌*◌, ◌^◌, ◌<◌, ◌≤◌, refl, mul-le-mul, arith}
 use Rattle.std.proofs.lemmas.Bool.{lt-ltb, le-ltb}
-use Rattle.plans.specs.declared.values.PlanValues.{PlanValues}
-use Rattle.plans.specs.Plans.{coded, Permuting}
+use Rattle.plans.specs.Plans.{coded}
 use Rattle.plans.proofs.Answering.{accepted, permutation}
 use Rattle.plans.proofs.accepted.Plan.interleave.Goals as goal
 
@@ -17,8 +16,8 @@ fits_both a b j p q r =
     let u : b * j * j ≤ 16384 * 16384 * 16384 = mul-le-mul t r in
     omega arith
 
-pub overflow-add-result : goal.overflow-add-result
-overflow-add-result c =
+pub overflow_add-result : goal.overflow_add-result
+overflow_add-result c =
     let a = accepted c.args.self.values c.args.self.accepted in
     let f = fits_both c.args.self.values.a c.args.self.values.b c.args.j (omega arith) (omega arith) (omega arith) in omega arith
 

@@ -4,8 +4,8 @@ use Rattle.trellises.specs.Inner.{slot_of}
 use Rattle.trellises.proofs.SlotLaws.{slot_low, mirrored}
 use Rattle.trellises.proofs.inner.Inner.slot.Goals as goal
 
-pub overflow-sub-result-else-from-eq0 : goal.overflow-sub-result-else-from-eq0
-overflow-sub-result-else-from-eq0 c =
+pub overflow_sub-result-else-from-eq0 : goal.overflow_sub-result-else-from-eq0
+overflow_sub-result-else-from-eq0 c =
     let t = c.args.self.now in
     omega (arith, t.table c.args.word (omega arith), slot_low 0 c.args.word t.m (omega arith))
 

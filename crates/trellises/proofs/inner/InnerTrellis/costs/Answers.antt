@@ -5,13 +5,13 @@ use Rattle.trellises.proofs.SlotLaws.{slot_low}
 use Rattle.trellises.proofs.InnerEdges.{row_fits, priors_fit, inner_laid}
 use Rattle.trellises.proofs.inner.InnerTrellis.costs.Goals as goal
 
-pub word-penalties-requires : goal.word-penalties-requires
-word-penalties-requires c =
+pub word_penalties-requires : goal.word_penalties-requires
+word_penalties-requires c =
     let t = c.args.self.now in
     (omega arith, omega (arith, priors_fit t.m t.n c.args.k (omega arith)))
 
-pub add-row-requires : goal.add-row-requires
-add-row-requires c =
+pub add_row-requires : goal.add_row-requires
+add_row-requires c =
     let t = c.args.self.now in
     let size = c.size-size.ensures in
     let row : c.args.k * c.size-size.result ≡ c.args.k * 2 ^ t.m = ap (λ x. c.args.k * x) size in (
@@ -20,7 +20,7 @@ add-row-requires c =
         omega (arith, row_fits t.m t.n c.args.k (omega arith)),
         (
           λ w h. omega (arith, t.table w (omega arith), slot_low 0 w t.m (omega arith)),
-          λ w h. omega (arith, c.word-penalties.ensures w (omega arith), penalties_low t.priors.now (c.args.k * t.m) w t.m),
+          λ w h. omega (arith, c.word_penalties.ensures w (omega arith), penalties_low t.priors.now (c.args.k * t.m) w t.m),
         ),
       ),
     )
@@ -30,7 +30,7 @@ returns-then-k-self c =
     let t = c.args.self.now in
     record {
       laid = inner_laid t.m t.n t.rows.now t.priors.now c.args.k (omega arith) (omega arith) c.size-size.result t.slots
-          c.word-penalties.new.out c.add-row.new.out c.size-size.ensures t.table c.word-penalties.ensures c.add-row.ensures.zero
-          c.add-row.ensures.one;
+          c.word_penalties.new.out c.add_row.new.out c.size-size.ensures t.table c.word_penalties.ensures c.add_row.ensures.zero
+          c.add_row.ensures.one;
       same = λ h. absurd (omega arith);
     }

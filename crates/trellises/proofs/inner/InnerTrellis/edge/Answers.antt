@@ -24,12 +24,12 @@ slot-slot-requires c =
 pub cost-requires : goal.cost-requires
 cost-requires c =
     let m = c.args.self.now.m in
-    let low : c.from-and-word-from.result.0 < 2 = omega (arith, div_below c.args.i (2 ^ m) 2 (pow_pos m) (omega arith)) in
-    (omega arith, omega (arith, slot_low c.from-and-word-from.result.0 c.from-and-word-from.result.1 m low))
+    let low : c.from_and_word-from.result.0 < 2 = omega (arith, div_below c.args.i (2 ^ m) 2 (pow_pos m) (omega arith)) in
+    (omega arith, omega (arith, slot_low c.from_and_word-from.result.0 c.from_and_word-from.result.1 m low))
 
 pub returns : goal.returns
 returns c =
     let t = c.args.self.now in
-    inner_made t.m t.n t.rows.now t.priors.now c.args.k (omega arith) (omega arith) c.args.i c.from-and-word-from.result.0
-    c.from-and-word-from.result.1 c.slot-slot.result c.cost.result (omega arith) c.from-and-word-from.ensures.from
-    c.from-and-word-from.ensures.word c.slot-slot.ensures c.cost.ensures
+    inner_made t.m t.n t.rows.now t.priors.now c.args.k (omega arith) (omega arith) c.args.i c.from_and_word-from.result.0
+    c.from_and_word-from.result.1 c.slot-slot.result c.cost.result (omega arith) c.from_and_word-from.ensures.from
+    c.from_and_word-from.ensures.word c.slot-slot.ensures c.cost.ensures
