@@ -1,10 +1,10 @@
 -- The slots of a block tell its payload: each step of the encoder is undone in turn.
-use Rattle.std.proofs.Common.{◌≡◌, ℕ, zero, suc, ◌+◌, ◌-◌, ◌*◌, ◌/◌, ◌%◌, ◌<◌, ◌≤◌, Bool, true, false, cond, eqb, leb, List, [], ◌∷◌, ◌++◌, map, length, get_or, None, sym, refl, ap, ◌∙◌, subst, inl, inr, ⊎_elim, mod-lt, arith}
+use Rattle.std.proofs.Common.{◌≡◌, ℕ, zero, suc, ◌+◌, ◌-◌, ◌*◌, ◌/◌, ◌%◌, ◌<◌, ◌≤◌, Bool, true, false, List, ◌++◌, map, length, get_or, sym, refl, ap, ◌∙◌, ⊎_elim, mod-lt, arith}
 use Rattle.std.specs.List.{range_with_len}
 use Rattle.std.proofs.lemmas.Nat.{div_below, div-add-mod'}
 use Rattle.std.proofs.lemmas.List.FromFn.{get_or-map-range_with_len, length-map-range_with_len}
 use Rattle.std.proofs.lemmas.List.{ext_get_or, get_or_append_left}
-use Rattle.std.proofs.lemmas.Bool.{cases_lt, cases_eq, le-leb, lt-leb}
+use Rattle.std.proofs.lemmas.Bool.{cases_lt, le-leb, lt-leb}
 use Rattle.plans.specs.declared.values.PlanValues.{PlanValues}
 use Rattle.plans.specs.Permutations.{Permutation}
 use Rattle.plans.specs.Plans.{stages, coded, symbols, interleaver}
@@ -12,7 +12,7 @@ use Rattle.polynomial.specs.Polynomials.{xor, zeros, remainder, value}
 use Rattle.polynomial.specs.Bytes.{bits, digits}
 use Rattle.polynomial.proofs.Binary.{digits_value}
 use Rattle.polynomial.proofs.Bitwise.{length_bits, bits_apart}
-use Rattle.encoder.specs.Encoding.{data_bits, earlier, even_bit, odd_bit, coded_bit, interleaved_bit, held_before, accumulated_bit, slot, encoded}
+use Rattle.encoder.specs.Encoding.{data_bits, earlier, even_bit, coded_bit, interleaved_bit, held_before, accumulated_bit, slot, encoded}
 use Rattle.encoder.specs.Promises.{AllBytes, OnlyPayload}
 
 xor_cancel : (x y z : Bool) → xor x z ≡ xor y z → x ≡ y

@@ -1,9 +1,9 @@
 -- The data bit of each stage, where it lies in the payload or in its check.
-use Rattle.std.proofs.Common.{◌≡◌, ℕ, zero, suc, ◌+◌, ◌-◌, ◌*◌, ◌/◌, ◌%◌, ◌^◌, ◌<◌, ◌≤◌, Bool, true, false, not, eqb, List, [], ◌∷◌, ◌++◌, length, get_or, sym, refl, ap, ◌∙◌, subst, arith}
+use Rattle.std.proofs.Common.{◌≡◌, ℕ, zero, suc, ◌+◌, ◌-◌, ◌*◌, ◌/◌, ◌%◌, ◌^◌, ◌<◌, ◌≤◌, Bool, true, false, not, eqb, List, ◌++◌, length, get_or, sym, refl, ap, ◌∙◌, arith}
 use mathlib.Core.Bool.{beq}
 use Rattle.std.proofs.lemmas.List.{get_or_append_left, get_or-append_right}
 use Rattle.polynomial.specs.Polynomials.{xor, zeros, remainder}
-use Rattle.polynomial.specs.Bytes.{bits, digits, check_of}
+use Rattle.polynomial.specs.Bytes.{bits, check_of}
 use Rattle.polynomial.proofs.Binary.{getD_digits}
 use Rattle.polynomial.proofs.Bitwise.{length_bits, get_d_bits}
 use Rattle.polynomial.proofs.Checks.{digits_check, length_remainder}

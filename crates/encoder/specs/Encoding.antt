@@ -1,5 +1,5 @@
 -- The way of a payload to its slots: check bits, outer code, interleaver, accumulator, symbols.
-use Rattle.std.specs.Prelude.{◌≡◌, ℕ, zero, suc, ◌+◌, ◌-◌, ◌*◌, ◌/◌, ◌%◌, Bool, true, false, cond, List, [], ◌∷◌, ◌++◌, map, length, Some, None, Option, ◌==◌, nat_le, slice_index_or}
+use Rattle.std.specs.Prelude.{ℕ, zero, suc, ◌-◌, ◌*◌, ◌/◌, ◌%◌, Bool, false, cond, List, ◌++◌, map, Option, ◌==◌, nat_le, slice_index_or}
 use Rattle.std.specs.List.{range_with_len}
 use Rattle.plans.specs.declared.values.PlanValues.{PlanValues}
 use Rattle.plans.specs.declared.refusals.Refusal.{Refusal}

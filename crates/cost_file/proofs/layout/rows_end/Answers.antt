@@ -1,5 +1,4 @@
 use Rattle.std.proofs.Common.{◌≡◌, ap, ◌∙◌, arith}
-use Rattle.plans.specs.Plans.{symbols}
 use Rattle.cost_file.specs.Files.{row_at, rows_end}
 use Rattle.cost_file.proofs.Sizes.{plan_sizes, row_place}
 use Rattle.cost_file.proofs.layout.rows_end.Goals as goal

@@ -9,7 +9,7 @@ use Rattle.cost_file.proofs.reader.open_within.Goals.{In_ok-plan}
 
 pub returns-in_err-judge_length : goal.returns-in_err-judge_length
 returns-in_err-judge_length c =
-    let p = err_from_is_err_and c.from-residual.result c.from-residual.ensures.1 in
+    let p = err_from_is_err_and c.from_residual.result c.from_residual.ensures.1 in
     rw (p.1, p.2) record { cases = fails_length c.args.most c.args.file.now _ c.in_err-judge_length.ensures.value }
 
 pub returns-in_err-judge_first : goal.returns-in_err-judge_first
@@ -54,7 +54,7 @@ returns c =
     let e = planned d in
     let none : file_fault c.args.most f ≡ None = passes c.args.most f c.in_ok-judge_length.ensures.value c.in_ok-judge_first.ensures.value c.in_ok-plan.plan.values e (right d)
     c.in_ok-judge_due.ensures.value c.in_ok-judge_rows.ensures.value c.in_ok-judge_payload.ensures.value in
-    let small : (k : ℕ) → get_or f k 0 < 256 = λ k. let t = c.type-inv.file k in omega arith in
+    let small : (k : ℕ) → get_or f k 0 < 256 = λ k. let t = c.type_inv.file k in omega arith in
     record {
       cases = record {
         file = refl;

@@ -17,7 +17,7 @@ pub returns-in_err-judge : goal.returns-in_err-judge
 returns-in_err-judge c =
     let l : c.loop-k.k < symbols c.args.plan.values = omega (arith, c.symbols-k-end.ensures.value) in
     let at = row_place c.args.plan.values c.loop-k.k c.slots-slots.result c.row_at-at.result c.slots-slots.ensures.value c.row_at-at.ensures.value in
-    let p = err_from_is_err_and c.from-residual.result c.from-residual.ensures.1 in
+    let p = err_from_is_err_and c.from_residual.result c.from_residual.ensures.1 in
     let h = row_fails c.args.plan.values c.args.file.now c.loop-k.k c.row_at-at.result c.slots-slots.result c.in_err-judge.field-0.0 l at c.slots-slots.ensures.value c.in_err-judge.ensures.value in
     rw (p.1, p.2) record { value = h ∙ c.loop-k.invariant }
 

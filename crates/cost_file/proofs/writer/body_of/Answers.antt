@@ -1,4 +1,4 @@
-use Rattle.std.proofs.Common.{ap, arith}
+use Rattle.std.proofs.Common.{arith}
 use Rattle.cost_file.proofs.Sizes.{plan_sizes}
 use Rattle.cost_file.proofs.writer.body_of.Goals as goal
 

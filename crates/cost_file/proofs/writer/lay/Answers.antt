@@ -49,6 +49,6 @@ returns-in_default c =
     let all = kept v rows c.args.payload in
     let r = rows_room all (length c.args.out.now) c.requires.0 c.requires.1 in
     let b : Begun v c.args.out.now (c.pack.new.part ++ post_of 0 16 c.args.out.now) = begun v c.args.out.now c.pack.new.part (omega arith) (c.pack.ensures.value ∙ ap (packed 1 0) c.body_of.ensures.value) in
-    let l : Laid (kept v rows c.args.payload) c.args.out.now c.put_rows.new.out = subst (λ o. Laid (kept v rows o) c.args.out.now c.put_rows.new.out) (sym c.in-default.is)
+    let l : Laid (kept v rows c.args.payload) c.args.out.now c.put_rows.new.out = subst (λ o. Laid (kept v rows o) c.args.out.now c.put_rows.new.out) (sym c.in_default.is)
     (laid_rows v rows c.args.out.now (c.pack.new.part ++ post_of 0 16 c.args.out.now) c.put_rows.new.out (fitting all c.requires.0).0 b c.put_rows.ensures.front c.put_rows.ensures.tail) in
     record { after = l }

@@ -8,7 +8,7 @@ use Rattle.cost_file.proofs.writer.write.Goals as goal
 
 pub returns-in_err-plan : goal.returns-in_err-plan
 returns-in_err-plan c =
-    let p = err_from_is_err_and c.from-residual.result c.from-residual.ensures.1 in
+    let p = err_from_is_err_and c.from_residual.result c.from_residual.ensures.1 in
     rw (p.1, p.2) record { cases = (refused_plan (kept c.args.values c.args.rows.now c.args.payload) (length c.args.out.now) c.in_err-plan.field-0.0 c.in_err-plan.ensures.cases, refl) }
 
 pub returns-then-not-has_lengths : goal.returns-then-not-has_lengths

@@ -1,4 +1,4 @@
-use Rattle.std.proofs.Common.{◌≡◌, ℕ, ◌+◌, ◌-◌, ◌*◌, ◌/◌, ◌%◌, ◌^◌, eqb, length, sym, refl, ap, ◌∙◌, arith}
+use Rattle.std.proofs.Common.{◌+◌, ◌-◌, ◌*◌, ◌/◌, ◌%◌, ◌^◌, eqb, length, sym, ap, ◌∙◌, arith}
 use Rattle.encoder.proofs.Stages.{payload_bit, check_bit, closing_bit}
 use Rattle.encoder.proofs.bits.data_bit.Goals as goal
 

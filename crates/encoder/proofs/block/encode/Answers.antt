@@ -1,4 +1,4 @@
-use Rattle.std.proofs.Common.{◌≡◌, ℕ, ◌*◌, ◌<◌, ◌≤◌, cond, List, length, take, drop, Some, None, sym, refl, ap, ◌∙◌, subst, arith}
+use Rattle.std.proofs.Common.{◌≡◌, ℕ, ◌*◌, ◌<◌, ◌≤◌, List, length, take, drop, Some, None, sym, refl, ap, ◌∙◌, subst, arith}
 use Rattle.std.proofs.lemmas.Result.{err_from_is_err_and}
 use Rattle.std.proofs.lemmas.Bool.{eq-eqb, ne_eqb, le-leb, lt-leb}
 use Rattle.plans.specs.declared.values.PlanValues.{PlanValues}
@@ -8,7 +8,7 @@ use Rattle.plans.specs.Plans.{coded, symbols, interleaver, plan_refusal}
 use Rattle.plans.specs.Permutations.{Permutation}
 use Rattle.plans.proofs.Answering.{accepted, permutation}
 use Rattle.encoder.specs.Encoding.{encoded, encode_refusal}
-use Rattle.encoder.specs.Promises.{Encoded, Encodes, AllBytes}
+use Rattle.encoder.specs.Promises.{Encoded, AllBytes}
 use Rattle.encoder.proofs.Inverting.{only_payload}
 use Rattle.encoder.proofs.block.encode.Goals as goal
 
@@ -30,7 +30,7 @@ served v len room h l r = rw (h, eq-eqb len v.bytes l, le-leb (symbols v) room r
 
 pub returns-in_err-plan : goal.returns-in_err-plan
 returns-in_err-plan c =
-    let p = err_from_is_err_and c.from-residual.result c.from-residual.ensures.1 in
+    let p = err_from_is_err_and c.from_residual.result c.from_residual.ensures.1 in
     record { cases = rw (p.1, p.2) (planless c.args.values (length c.args.payload.now) (length c.args.out.now) c.in_err-plan.field-0.0 c.in_err-plan.ensures.cases, refl) }
 
 pub returns-then-payload-bytes : goal.returns-then-payload-bytes
@@ -64,5 +64,5 @@ returns c =
     record {
       cases = wrote c.args.values plan.values c.args.payload.now c.args.out.now c.lay.new.out c.symbols-n.result
           a.0 a.1 (permutation plan.values ok.2) ok.1.low c.symbols-n.ensures.value c.symbols-n.ensures.whole
-          (c.if-payload-bytes.false ∙ c.bytes.ensures.value) c.if-out-n.false (omega arith) (λ k. let t = c.type-inv.payload k in omega arith) c.lay.ensures.front c.lay.ensures.tail;
+          (c.if-payload-bytes.false ∙ c.bytes.ensures.value) c.if-out-n.false (omega arith) (λ k. let t = c.type_inv.payload k in omega arith) c.lay.ensures.front c.lay.ensures.tail;
     }

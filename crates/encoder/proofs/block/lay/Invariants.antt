@@ -1,4 +1,4 @@
-use Rattle.std.proofs.Common.{◌≡◌, ℕ, ◌+◌, ◌*◌, ◌<◌, ◌≤◌, map, take, drop}
+use Rattle.std.proofs.Common.{◌≡◌, ◌*◌, map, take, drop}
 use Rattle.plans.specs.Plans.{symbols}
 use Rattle.std.specs.List.{range_with_len}
 use Rattle.encoder.specs.Encoding.{interleaved_bit, held_before, data_bits, slot}

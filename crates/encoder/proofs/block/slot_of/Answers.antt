@@ -1,4 +1,4 @@
-use Rattle.std.proofs.Common.{◌≡◌, ℕ, suc, ◌+◌, ◌*◌, ◌^◌, ◌<◌, ◌≤◌, Bool, true, false, List, map, sym, refl, ap, ◌∙◌, subst, add-zero, add_assoc, add-one, arith, pow_mono}
+use Rattle.std.proofs.Common.{◌≡◌, ℕ, ◌+◌, ◌*◌, ◌^◌, ◌<◌, ◌≤◌, Bool, true, false, List, sym, refl, ap, ◌∙◌, add-zero, add_assoc, add-one, arith, pow_mono}
 use mir.Val.{bool_byte}
 use Rattle.plans.specs.declared.values.PlanValues.{PlanValues}
 use Rattle.plans.specs.Plans.{coded}

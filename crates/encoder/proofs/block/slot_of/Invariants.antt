@@ -1,4 +1,4 @@
-use Rattle.std.proofs.Common.{◌≡◌, ◌+◌, ◌*◌, ◌^◌, ◌<◌}
+use Rattle.std.proofs.Common.{◌≡◌, ◌+◌, ◌*◌}
 use Rattle.encoder.specs.Encoding.{accumulated_bit, interleaved_bit, held_before, data_bits}
 use Rattle.encoder.proofs.Symbols.{read}
 use Rattle.encoder.proofs.block.slot_of.Given as goal

@@ -6,7 +6,7 @@ use Rattle.marginals.proofs.Answered.{count_is, count_there, edge_is, edge_there
 use Rattle.marginals.proofs.gather.gather.Goals as goal
 
 pub unreachable-requires : goal.unreachable-requires
-unreachable-requires g c = count_there (g.T.Trellis.meaning c.args.t.now) c.args.k c.requires.stage c.in-default.ensures
+unreachable-requires g c = count_there (g.T.Trellis.meaning c.args.t.now) c.args.k c.requires.stage c.in_default.ensures
 
 pub unreachable-requires-in_default-edge : goal.unreachable-requires-in_default-edge
 unreachable-requires-in_default-edge g c =

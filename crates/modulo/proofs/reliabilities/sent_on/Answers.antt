@@ -10,8 +10,8 @@ held r d reliability prior is less = is ∙ ap (λ d. int_max (negsuc 510) (int_
 
 pub returns : goal.returns
 returns c =
-    let low : negsuc 510 ≤ℤ c.clamp.result = omega (arith, ints, c.clamp.ensures.lower-bound) in
-    let high : c.clamp.result ≤ℤ pos 511 = omega (arith, ints, c.clamp.ensures.upper-bound) in
+    let low : negsuc 510 ≤ℤ c.clamp.result = omega (arith, ints, c.clamp.ensures.lower_bound) in
+    let high : c.clamp.result ≤ℤ pos 511 = omega (arith, ints, c.clamp.ensures.upper_bound) in
     let cast : to_z w16 (of_z w16 (to_z w64 (of_z w64 c.clamp.result))) ≡ c.clamp.result = omega (arith, ints) in
     let news : ℤ = to_z w64 (of_z w64 (to_z w64 (of_z w64 c.from.result) -ℤ to_z w64 (of_z w64 c.from-2.result))) in
     cast ∙ held c.clamp.result news c.args.reliability c.args.prior c.clamp.ensures.value (omega (arith, ints))

@@ -49,6 +49,17 @@ replace-requires g c =
     ap (λ n. n * (v * v) + v * v) c.stages-stages.ensures ∙ ap (λ v. (g.T.Trellis.meaning c.args.t.now).stages * (v * v) + v * v) c.state_count-states.ensures in
     (r.0, r.1, omega arith)
 
+pub overflow_mul-first : goal.overflow_mul-first
+overflow_mul-first g c =
+    let n = c.stages-stages.result in
+    let v = c.state_count-states.result in
+    let j = get_or c.args.order.now c.loop-j.j-index 0 in
+    let p = open_parts n c.loop-j.ends j (sym c.if-not-is_open.ensures) in
+    let r = places n c.loop-j.ends c.loop-j.invariant.0 j p.0 p.1 p.2 (v * v) in
+    let room : n * (v * v) + v * v ≡ (g.T.Trellis.meaning c.args.t.now).stages * (g.T.Trellis.states * g.T.Trellis.states) + g.T.Trellis.states * g.T.Trellis.states =
+    ap (λ n. n * (v * v) + v * v) c.stages-stages.ensures ∙ ap (λ v. (g.T.Trellis.meaning c.args.t.now).stages * (v * v) + v * v) c.state_count-states.ensures in
+    omega arith
+
 pub close-requires : goal.close-requires
 close-requires g c =
     let n = c.stages-stages.result in

@@ -10,7 +10,7 @@ use Rattle.passes.proofs.totals.carry_stage.Goals as goal
 
 pub unreachable-requires : goal.unreachable-requires
 unreachable-requires g c =
-    some_count (g.T.Trellis.meaning c.args.t.now) c.args.k c.requires.stage (sym c.in-default.ensures)
+    some_count (g.T.Trellis.meaning c.args.t.now) c.args.k c.requires.stage (sym c.in_default.ensures)
 
 pub loop-i-init : goal.loop-i-init
 unfolding gathered

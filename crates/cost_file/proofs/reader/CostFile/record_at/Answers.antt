@@ -7,7 +7,7 @@ use Rattle.cost_file.proofs.reader.CostFile.record_at.Goals as goal
 pub returns-in_err-bytes : goal.returns-in_err-bytes
 returns-in_err-bytes c =
     let no : Whole c.args.self.now → ⊥ = λ w. let i = inside _ w.accepted in omega (arith, i.first, c.in_err-bytes.ensures.lookup.0) in
-    rw c.from-residual.ensures record { value = λ w. absurd (no w); plan = λ w. absurd (no w); bound = λ h. omega arith }
+    rw c.from_residual.ensures record { value = λ w. absurd (no w); plan = λ w. absurd (no w); bound = λ h. omega arith }
 
 pub returns-in_err-bytes-2 : goal.returns-in_err-bytes-2
 returns-in_err-bytes-2 c =
