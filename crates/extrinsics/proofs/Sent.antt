@@ -50,9 +50,9 @@ module _ (states ceiling bits n : ℕ) (first last : ℕ → Bool) (g : ℕ → 
       let q = told_join states n first last k b prior g h o.told ceiling bits law o.lawful 1 low in
       let s = zero_whole prior o.within in
       let t = one_whole prior o.within in
-      let zero : z ≡ Z + zero_penalty prior = omega (arith, o.zero-free) in
+      let zero : z ≡ Z + zero_penalty prior = omega (arith, o.zero_free) in
       let one : i ≡ O + one_penalty prior = omega (arith, o.one_free) in
-      ap (option_map (λ r. extrinsic r prior)) (both_values z i o.zero-free o.one_free)
+      ap (option_map (λ r. extrinsic r prior)) (both_values z i o.zero_free o.one_free)
       ∙ ap (λ z. Some (extrinsic (pos z -ℤ pos i) prior)) zero
       ∙ ap (λ i. Some (extrinsic (pos (Z + zero_penalty prior) -ℤ pos i) prior)) one
 

@@ -1,8 +1,7 @@
 -- What an outer pass sends on about every coded bit, and what it finds of every data bit.
-use Rattle.std.specs.Prelude.{ℕ, ◌*◌, ◌/◌, ◌%◌, Bool, cond, ◌||◌, List, map, ℤ, pos, ◌==◌, nat_lt, slice_index_or}
+use Rattle.std.specs.Prelude.{ℕ, ◌*◌, ◌/◌, ◌%◌, cond, ◌||◌, List, map, ℤ, pos, ◌==◌, nat_lt, slice_index_or}
 use Rattle.std.specs.List.{range_with_len}
 use Rattle.std.specs.Option.{unwrap_or}
-use Rattle.paths.specs.Trellises.{Meaning}
 use Rattle.paths.specs.Paths.{path_join, paths_with}
 use Rattle.paths.specs.Least.{least, top}
 use Rattle.trellises.specs.Outer.{outer}

@@ -11,7 +11,7 @@ use Rattle.passes.specs.Levels.{Levels}
 use Rattle.passes.proofs.Rows.{row_under, rows}
 use Rattle.ways.specs.declared.names.Way.TheVariants.{Metastages}
 use Rattle.ways.specs.WorkTables.{Range, column_entries, last_level, all_ranges, range_entry}
-use Rattle.ways.proofs.Ranges.{range_of, Place, place}
+use Rattle.ways.proofs.Ranges.{Place, place}
 use Rattle.ways.proofs.LastLevel.{all_long, all_at}
 use Rattle.ways.proofs.Entries.{Behind}
 

@@ -3,7 +3,6 @@ use Rattle.std.proofs.Common.{◌≡◌, ℕ, ◌+◌, ◌*◌, ◌%◌, ◌<◌
 use Rattle.std.proofs.lemmas.List.{get_or_default}
 use Rattle.std.proofs.lemmas.Bool.{cond-true, cond-false, eq-eqb, ne_eqb}
 use Rattle.paths.specs.Trellises.{Meaning, Lawful, Reaches}
-use Rattle.paths.specs.Columns.{forward, backward}
 use Rattle.paths.specs.Least.{least, top}
 use Rattle.paths.specs.LeastLaws.{least_laws}
 use Rattle.paths.proofs.Passes.{columns_are_joins}

@@ -1,9 +1,9 @@
 -- The work table of a pass, entry by entry, as each way leaves it.
-use Rattle.std.specs.Prelude.{ℕ, zero, suc, ◌+◌, ◌-◌, ◌*◌, ◌/◌, ◌%◌, Bool, true, false, cond, List, [], ◌∷◌, map, length, nat_le, nat_lt, slice_index_or}
+use Rattle.std.specs.Prelude.{ℕ, zero, suc, ◌+◌, ◌-◌, ◌*◌, ◌/◌, ◌%◌, cond, List, map, length, nat_le, nat_lt, slice_index_or}
 use Rattle.std.specs.List.{range_with_len, flat_map}
 use Rattle.paths.specs.Trellises.{Meaning}
 use Rattle.paths.specs.Paths.{path_join, before, after, across}
-use Rattle.paths.specs.Metastages.{level_size, level_start, covers_from}
+use Rattle.paths.specs.Metastages.{level_size, covers_from}
 use Rattle.paths.specs.Least.{least}
 use Rattle.ways.specs.declared.names.Way.{Way}
 use Rattle.ways.specs.declared.names.Way.TheVariants.{Columns, Metastages, Modular}

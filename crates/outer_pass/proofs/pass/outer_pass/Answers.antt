@@ -58,10 +58,10 @@ returns c =
     let d : 2 * c.loop-k.k ≡ 2 * n = omega arith in
     record {
       sent = front_all (outer_extrinsic n priors) (2 * c.loop-k.k) (2 * n) c.args.out.now c.loop-k.out c.loop-k.invariant.0 d;
-      sent-tail = c.loop-k.invariant.0.tail;
+      sent_tail = c.loop-k.invariant.0.tail;
       reliabilities = front_all (data_reliability n priors) c.loop-k.k n c.args.found.now c.loop-k.found c.loop-k.invariant.1 e;
-      reliabilities-tail = c.loop-k.invariant.1.tail;
+      reliabilities_tail = c.loop-k.invariant.1.tail;
       bits = front_all (decision n priors) c.loop-k.k n c.args.decided.now c.loop-k.decided c.loop-k.invariant.2 e;
-      bits-tail = c.loop-k.invariant.2.tail;
+      bits_tail = c.loop-k.invariant.2.tail;
       worked = same_work c.args.way _ _ (length c.args.table.now) c.work.new.table c.work.ensures.whole c.new-t.ensures.means;
     }

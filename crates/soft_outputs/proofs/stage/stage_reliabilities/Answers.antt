@@ -1,5 +1,4 @@
-use Rattle.std.proofs.Common.{◌≡◌, ℕ, suc, ◌+◌, ◌*◌, ◌<◌, ◌≤◌, List, length, get_or, sym, ap, ◌∙◌}
-use Rattle.paths.specs.Trellises.{Meaning}
+use Rattle.std.proofs.Common.{◌≡◌, ℕ, ap, ◌∙◌}
 use Rattle.ways.specs.declared.names.Way.{Way}
 use Rattle.ways.specs.declared.names.Way.TheVariants.{Columns, Metastages, Modular}
 use Rattle.ways.specs.Ways.{kept_as}
