@@ -1,11 +1,11 @@
 -- The front of a table filled place by place.
-use Rattle.std.proofs.Common.{◌≡◌, ℕ, suc, ◌+◌, ◌-◌, ◌<◌, List, [], ◌∷◌, ◌++◌, map, length, take, drop, set, replicate, sym, refl, ap, ◌∙◌, add-one, arith, drop-cons}
+use Rattle.std.proofs.Common.{◌≡◌, ℕ, suc, ◌+◌, ◌-◌, ◌<◌, List, [], ◌∷◌, ◌++◌, map, length, take, drop, set, replicate, sym, ap, ◌∙◌, add-one, arith, drop-cons}
 use borrow.Rule.Slice.PartMut.{put_mid}
 use lib.ListN.{length-replicate}
 use Rattle.std.specs.List.{range_with_len}
 use Rattle.std.proofs.lemmas.List.FromFn.{length-map-range_with_len, map-range_with_len_more}
 use Rattle.std.proofs.lemmas.List.{set_at, replicate_more, append_assoc, drop-drop}
-use Rattle.run_model.specs.Tables.{fronted, cleared, row_laid}
+use Rattle.run_model.specs.Tables.{fronted, cleared}
 
 -- one entry more behind the n that are new
 pub fronted_more : {A : Type 0} (new : List A) (n : ℕ) (x : A) (t : List A) → length new ≡ n → n < length t → set (fronted n new t) n x ≡ fronted (n + 1) (new ++ x ∷ []) t

@@ -1,7 +1,7 @@
-use Rattle.std.proofs.Common.{◌+◌, ◌*◌, sym, ap, ◌∙◌, arith}
+use Rattle.std.proofs.Common.{◌+◌, arith}
 use Rattle.polynomial.proofs.OneMore.{bit_of, bit_low}
 use Rattle.run_model.specs.Model.{decided_bit}
-use Rattle.run_tables.proofs.Decided.{read, read_more, read_low}
+use Rattle.run_tables.proofs.Decided.{read_more, read_low}
 use Rattle.run_tables.proofs.bits.byte_at.Goals as goal
 
 pub overflow_mul-value : goal.overflow_mul-value

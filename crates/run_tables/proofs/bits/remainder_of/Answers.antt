@@ -1,4 +1,4 @@
-use Rattle.std.proofs.Common.{◌≡◌, ◌-◌, sym, refl, ap, ◌∙◌, arith}
+use Rattle.std.proofs.Common.{◌≡◌, ◌-◌, refl, ap, ◌∙◌, arith}
 use Rattle.plans.specs.Plans.{stages}
 use Rattle.polynomial.specs.Polynomials.{value, remainder}
 use Rattle.run_model.specs.Model.{decided_bits, decided_remainder}
