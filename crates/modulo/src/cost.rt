@@ -1,7 +1,7 @@
 //! The least cost modulo 65,536 as the operations of a pass.
 
 ghost use Rattle.modulo.specs.Modulo.{modulo};
-ghost use Rattle.std.proofs.Common.{rules};
+ghost use Rattle.std.proofs.Common.{lit≤};
 
 use super::modular::{NONE, nearer_of, sum_of};
 use paths::Weights;
@@ -17,7 +17,7 @@ impl Weights for ModuloCost {
 
     ghost fine = { λ _. Unit {0} };
 
-    ghost little = { Prim.search rules };
+    ghost little = { lit≤ _ };
 
     fn none() -> u32 {
         NONE

@@ -2,7 +2,7 @@
 
 ghost use Rattle.paths.specs.Least.{least, FineCost};
 ghost use Rattle.paths.specs.LeastLaws.{least_laws};
-ghost use Rattle.std.proofs.Common.{rules};
+ghost use Rattle.std.proofs.Common.{lit≤};
 
 use super::semiring::{Semiring, Weights};
 
@@ -21,7 +21,7 @@ impl Weights for LeastCost {
 
     ghost fine = { FineCost };
 
-    ghost little = { Prim.search rules };
+    ghost little = { lit≤ _ };
 
     fn none() -> u32 {
         u32::MAX

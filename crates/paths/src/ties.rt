@@ -2,7 +2,7 @@
 
 ghost use Rattle.paths.specs.Ties.{least_with_ties, FineTied};
 ghost use Rattle.paths.specs.TiesLaws.{ties_laws};
-ghost use Rattle.std.proofs.Common.{rules};
+ghost use Rattle.std.proofs.Common.{lit≤};
 
 use super::semiring::{Semiring, Weights};
 
@@ -28,7 +28,7 @@ impl Weights for LeastCostWithTies {
 
     ghost fine = { FineTied };
 
-    ghost little = { Prim.search rules };
+    ghost little = { lit≤ _ };
 
     fn none() -> Tied {
         Tied {
