@@ -3,7 +3,7 @@ use Rattle.std.specs.Prelude.{ℕ, ◌+◌, ◌*◌, ◌/◌, ◌%◌, ◌^◌, 
 use Rattle.std.specs.Int.{◌∣◌}
 use Rattle.plans.specs.declared.values.PlanValues.{PlanValues}
 use Rattle.plans.specs.declared.refusals.Refusal.{Refusal}
-use Rattle.plans.specs.declared.refusals.Refusal.TheVariants.{PayloadBytes, SymbolBits, Interleaver, Room, Choice, Index, Lengths, RowMissing, NotStanding, PassLimit, RemainderLeft, FileLength, RecordCheck, RecordHead, LengthDue}
+use Rattle.plans.specs.declared.refusals.Refusal.TheVariants.{PayloadBytes, SymbolBits, Interleaver, Room, Lengths, FileLength, RecordCheck, RecordHead, LengthDue}
 use Rattle.plans.specs.Divisors.{coprime, Coprime}
 use Rattle.plans.specs.Refusals.{unless, first_of}
 
@@ -66,13 +66,7 @@ Answered v (Some PayloadBytes) = Sized v → ⊥
 Answered v (Some SymbolBits) = Sized v × (Grouped v → ⊥)
 Answered v (Some Interleaver) = Sized v × Grouped v × (Permuting v → ⊥)
 Answered v (Some Room) = ⊥
-Answered v (Some Choice) = ⊥
-Answered v (Some Index) = ⊥
 Answered v (Some Lengths) = ⊥
-Answered v (Some RowMissing) = ⊥
-Answered v (Some NotStanding) = ⊥
-Answered v (Some PassLimit) = ⊥
-Answered v (Some RemainderLeft) = ⊥
 Answered v (Some FileLength) = ⊥
 Answered v (Some RecordCheck) = ⊥
 Answered v (Some RecordHead) = ⊥

@@ -1,20 +1,14 @@
 -- The number of each refusal, and questions asked in order.
 use Rattle.std.specs.Prelude.{ℕ, Bool, true, false, Some, None, Option}
 use Rattle.plans.specs.declared.refusals.Refusal.{Refusal}
-use Rattle.plans.specs.declared.refusals.Refusal.TheVariants.{PayloadBytes, SymbolBits, Interleaver, Room, Choice, Index, Lengths, RowMissing, NotStanding, PassLimit, RemainderLeft, FileLength, RecordCheck, RecordHead, LengthDue}
+use Rattle.plans.specs.declared.refusals.Refusal.TheVariants.{PayloadBytes, SymbolBits, Interleaver, Room, Lengths, FileLength, RecordCheck, RecordHead, LengthDue}
 
 abbrev pub number_of : Refusal → ℕ
 number_of PayloadBytes = 1
 number_of SymbolBits = 2
 number_of Interleaver = 3
 number_of Room = 4
-number_of Choice = 5
-number_of Index = 6
 number_of Lengths = 7
-number_of RowMissing = 8
-number_of NotStanding = 9
-number_of PassLimit = 10
-number_of RemainderLeft = 11
 number_of FileLength = 12
 number_of RecordCheck = 13
 number_of RecordHead = 14

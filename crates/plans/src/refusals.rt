@@ -14,20 +14,8 @@ pub enum Refusal {
     Interleaver = 3,
     /// A table or an output buffer is too short.
     Room = 4,
-    /// A way or a kind of reading has no such number.
-    Choice = 5,
-    /// An index lies outside its table.
-    Index = 6,
-    /// A payload, a row or the rows do not have their length.
+    /// A payload or the rows do not have their length.
     Lengths = 7,
-    /// A row of the block has not come.
-    RowMissing = 8,
-    /// What the call needs does not stand.
-    NotStanding = 9,
-    /// As many passes were made as may be.
-    PassLimit = 10,
-    /// The decided bits leave a remainder.
-    RemainderLeft = 11,
     /// The file's length lies outside 16 to 600,000 bytes.
     FileLength = 12,
     /// A record's check is wrong.

@@ -2,5 +2,3 @@ pub mod Kinds
 pub mod Tables
 pub mod Model
 pub mod Requests
-pub mod Steps
-pub mod Runs
