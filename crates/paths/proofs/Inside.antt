@@ -27,3 +27,6 @@ each_nth P (y ∷ xs) (suc i) x all h = each_nth P xs i x all.1 h
 pub inside : {states ceiling bits : ℕ} {m : Meaning} → Lawful states ceiling bits m → Inside states m
 inside {states} {ceiling} {bits} {m} law k h =
     each_so (LawfulEdge states ceiling bits) (Low states) (λ e l. record { from_low = l.from_low; to_low = l.to_low }) (m.edges k) (law.every k h)
+
+pub edge_lawful : {states ceiling bits : ℕ} {m : Meaning} → Lawful states ceiling bits m → (k : ℕ) → k < m.stages → (i : ℕ) (e : Edge) → slice_get (m.edges k) i ≡ Some e → LawfulEdge states ceiling bits e
+edge_lawful {states} {ceiling} {bits} {m} law k here i e at = each_nth (LawfulEdge states ceiling bits) (m.edges k) i e (law.every k here) at

@@ -6,6 +6,7 @@ mod edges;
 mod laws;
 mod least;
 mod semiring;
+mod stage;
 mod ties;
 mod trellis;
 
@@ -15,5 +16,6 @@ pub use laws::{
 };
 pub use least::LeastCost;
 pub use semiring::{Semiring, Weights};
+pub use stage::Stage;
 pub use ties::{LeastCostWithTies, Tied};
 pub use trellis::Trellis;

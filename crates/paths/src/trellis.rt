@@ -29,7 +29,9 @@ pub trait Trellis {
 
     ghost reaches: { (t : Self) → Reaches states reach (meaning t) };
 
-    /// `STATES`, which clauses cannot name.
+    // A clause can name a constant by a ghost member of its name, but the check does not tie the two in an impl with a
+    // lifetime, as those of the trellises over lent tables are: so each constant has a function, with a ghost number.
+    /// `STATES`.
     fn state_count() -> usize
         ensures { result ≡ states };
 
