@@ -4,6 +4,8 @@ use native.Mathlib.Nat.{pow-succ'}
 use Rattle.std.proofs.lemmas.Bool.{cases_eq}
 use Rattle.paths.specs.Semirings.{Operations}
 use Rattle.paths.specs.Columns.{join_below}
+use Rattle.marginals.specs.declared.room.ByBit.{ByBit}
+use Rattle.marginals.specs.Words.{neither}
 use Rattle.marginals.specs.Halves.{held, halved, lower, upper}
 
 pub below_same : {W : Type 0} (o : Operations W) (f g : ℕ → W) (n : ℕ) → ((v : ℕ) → v < n → f v ≡ g v) → join_below o n f ≡ join_below o n g
@@ -12,40 +14,42 @@ below_same o f g zero same = refl
 below_same o f g (suc n) same = ap (λ u. o.join u (f n)) (below_same o f g n (λ v h. same v (omega arith))) ∙ ap (o.join (join_below o n g)) (same n (omega arith))
 
 -- the words as they stand when the bits from b on are folded, with the marginals of those bits
-pub record Folded {W : Type 0} (o : Operations W) (bits b : ℕ) (old words zeros ones : List W) : Type 0 where
+pub record Folded {W : Type 0} (o : Operations W) (bits b : ℕ) (old words : List W) (found : List (ByBit W)) : Type 0 where
   pub left : (x : ℕ) → x < 2 ^ b → get_or words x o.none ≡ halved o (held o old) b (bits - b) x
-  pub low : (j : ℕ) → b ≤ j → j < bits → get_or zeros j o.none ≡ lower o (held o old) bits j
-  pub high : (j : ℕ) → b ≤ j → j < bits → get_or ones j o.none ≡ upper o (held o old) bits j
+  pub low : (j : ℕ) → b ≤ j → j < bits → (get_or found j (neither o)).zero ≡ lower o (held o old) bits j
+  pub high : (j : ℕ) → b ≤ j → j < bits → (get_or found j (neither o)).one ≡ upper o (held o old) bits j
 
 module _ {W : Type 0} (o : Operations W) (bits : ℕ) (old : List W) where
-  pub fold_start : (zeros ones : List W) → Folded o bits bits old old zeros ones
+  pub fold_start : (found : List (ByBit W)) → Folded o bits bits old old found
   unfolding halved
-  fold_start zeros ones =
+  fold_start found =
       let none : bits - bits ≡ 0 = omega arith in
       record { left = λ x h. rw none; low = λ j up down. absurd (omega arith); high = λ j up down. absurd (omega arith) }
 
   -- one bit more
-  pub fold_more : (b n : ℕ) (words new zeros ones : List W) (off on : W) → Folded o bits n old words zeros ones → n ≡ suc b → n ≤ bits → b < length zeros → b < length ones
-      → off ≡ join_below o (2 ^ b) (λ x. get_or words x o.none)
-      → on ≡ join_below o (2 ^ b) (λ x. get_or words (2 ^ b + x) o.none)
+  pub fold_more : (b n : ℕ) (words new : List W) (found : List (ByBit W)) (bit : ByBit W) → Folded o bits n old words found → n ≡ suc b → n ≤ bits → b < length found
+      → bit.zero ≡ join_below o (2 ^ b) (λ x. get_or words x o.none)
+      → bit.one ≡ join_below o (2 ^ b) (λ x. get_or words (2 ^ b + x) o.none)
       → ((x : ℕ) → x < 2 ^ b → get_or new x o.none ≡ o.join (get_or words x o.none) (get_or words (2 ^ b + x) o.none))
-      → Folded o bits b old new (set zeros b off) (set ones b on)
+      → Folded o bits b old new (set found b bit)
   unfolding halved
-  fold_more b n words new zeros ones off on was is within room space z u j =
+  fold_more b n words new found bit was is within room z u j =
       let d = bits - suc b in
       let f = held o old in
       let deep : bits - b ≡ suc d = omega arith in
       let twice : 2 ^ suc b ≡ 2 * 2 ^ b = pow-succ' 2 b in
       let at : (x : ℕ) → x < 2 ^ suc b → get_or words x o.none ≡ halved o f (suc b) d x =
       λ x h. was.left x (rw is h) ∙ ap (λ m. halved o f m (bits - m) x) is in
+      let here : (j : ℕ) → j ≡ b → get_or (set found b bit) j (neither o) ≡ bit = λ j e. ap (λ i. get_or (set found b bit) i (neither o)) e ∙ get_or-set_same found b bit (neither o) room in
+      let there : (j : ℕ) → j ≢ b → get_or (set found b bit) j (neither o) ≡ get_or found j (neither o) = λ j ne. get_or-set_other found b j bit (neither o) ne in
       record {
         left = λ x h. j x h ∙ ap (λ y. o.join y (get_or words (2 ^ b + x) o.none)) (at x (omega arith)) ∙ ap (o.join (halved o f (suc b) d x)) (at (2 ^ b + x) (omega arith)) ∙ rw deep;
         low = λ j up down. ⊎_elim
-            (λ e. ap (λ i. get_or (set zeros b off) i o.none) e ∙ get_or-set_same zeros b off o.none room ∙ z ∙ below_same o _ _ (2 ^ b) (λ x h. at x (omega arith)) ∙ ap (lower o f bits) (sym e))
-            (λ (ne : j ≢ b). get_or-set_other zeros b j off o.none ne ∙ was.low j (omega arith) down)
+            (λ e. ap (λ (y : ByBit W). y.zero) (here j e) ∙ z ∙ below_same o _ _ (2 ^ b) (λ x h. at x (omega arith)) ∙ ap (lower o f bits) (sym e))
+            (λ (ne : j ≢ b). ap (λ (y : ByBit W). y.zero) (there j ne) ∙ was.low j (omega arith) down)
             (cases_eq j b);
         high = λ j up down. ⊎_elim
-            (λ e. ap (λ i. get_or (set ones b on) i o.none) e ∙ get_or-set_same ones b on o.none space ∙ u ∙ below_same o _ _ (2 ^ b) (λ x h. at (2 ^ b + x) (omega arith)) ∙ ap (upper o f bits) (sym e))
-            (λ (ne : j ≢ b). get_or-set_other ones b j on o.none ne ∙ was.high j (omega arith) down)
+            (λ e. ap (λ (y : ByBit W). y.one) (here j e) ∙ u ∙ below_same o _ _ (2 ^ b) (λ x h. at (2 ^ b + x) (omega arith)) ∙ ap (upper o f bits) (sym e))
+            (λ (ne : j ≢ b). ap (λ (y : ByBit W). y.one) (there j ne) ∙ was.high j (omega arith) down)
             (cases_eq j b);
       }

@@ -1,9 +1,10 @@
--- The rows of a frame, and the words that are cleared.
-use Rattle.std.proofs.Common.{◌≡◌, ℕ, ◌+◌, ◌*◌, ◌<◌, ◌≤◌, ◌≢◌, List, length, get_or, set, sym, refl, ap, ◌∙◌, ⊎_elim, mul-le-mul_right, add-mul, one-mul, arith, get_or-set_other, get_or-set_same, below_more}
-use Rattle.std.proofs.lemmas.List.{get_or_read}
+-- The rows of a frame.
+use Rattle.std.proofs.Common.{◌≡◌, ℕ, ◌+◌, ◌-◌, ◌*◌, ◌<◌, ◌≤◌, List, length, get_or, take, ◌++◌, sym, ap, ◌∙◌, ⊎_elim, mul-le-mul_right, add-mul, one-mul, length-take, arith}
+use borrow.Rule.Slice.PartMut.{put_mid, post_of}
+use Rattle.std.proofs.lemmas.List.{get_or-take, get_or_append_left, get_or-append_right}
 use Rattle.std.proofs.lemmas.Bool.{cases_eq}
 use Rattle.paths.specs.Semirings.{Operations}
-use Rattle.marginals.specs.Words.{column_at}
+use Rattle.marginals.specs.Words.{entry_of}
 
 -- a row ends before the next begins
 pub row_under : (s r states : ℕ) → s < r → s * states + states ≤ r * states
@@ -19,45 +20,44 @@ place_low s t states few h l =
     let v : states * states ≤ 16 * states = mul-le-mul_right states few in
     omega arith
 
--- so many places of a row are laid, and what stands before the row stays
-pub record RowLaid {W : Type 0} (o : Operations W) (table : List W) (from after row t : ℕ) (old frame : List W) : Type 0 where
-  pub same : (p : ℕ) → p < row → get_or frame p o.none ≡ get_or old p o.none
-  pub laid : (s : ℕ) → s < t → get_or frame (row + s) o.none ≡ o.chain (get_or table from o.none) (column_at o table after s)
+-- a part put in the place of another leaves what stands before it, and stands there itself
+module _ {W : Type 0} (d : W) (a k : ℕ) (xs ys : List W) (room : a ≤ length xs) where
+  length_front : length (take a xs) ≡ a
+  length_front = omega (arith, length-take a xs)
 
-module _ {W : Type 0} (o : Operations W) (table : List W) (from after row : ℕ) (old : List W) where
-  pub row_start : RowLaid o table from after row 0 old old
-  row_start = record { same = λ p h. refl; laid = λ s h. absurd (omega arith) }
+  pub put_before : (p : ℕ) → p < a → get_or (put_mid a k xs ys) p d ≡ get_or xs p d
+  put_before p h =
+      let l = length_front in
+      get_or_append_left (take a xs) (ys ++ post_of a k xs) d p (omega arith) ∙ get_or-take a xs p d h
 
-  pub row_more : (t : ℕ) (frame : List W) → RowLaid o table from after row t old frame → row + t < length frame → from < length table → after + t < length table
-      → (a b x : W) → a ≡ get_or table from a → b ≡ get_or table (after + t) b → x ≡ o.chain a b → RowLaid o table from after row (t + 1) old (set frame (row + t) x)
-  row_more t frame was room first second a b x one two is =
-      let p : a ≡ get_or table from o.none = get_or_read table from a first one o.none in
-      let q : b ≡ get_or table (after + t) o.none = get_or_read table (after + t) b second two o.none in
-      let ok : x ≡ o.chain (get_or table from o.none) (get_or table (after + t) o.none) = cc in
-      record {
-        same = λ p h. let ne : p ≢ (row + t) = omega arith in rw get_or-set_other (was.same p h);
-        laid = below_more _ _
-            (λ s h. let ne : (row + s) ≢ (row + t) = omega arith in rw get_or-set_other (was.laid s h))
-            (rw get_or-set_same ok);
-      }
+  pub put_within : (t : ℕ) → t < length ys → get_or (put_mid a k xs ys) (a + t) d ≡ get_or ys t d
+  put_within t h =
+      let l = length_front in
+      let at : a + t - a ≡ t = omega arith in
+      get_or-append_right (take a xs) (ys ++ post_of a k xs) a (a + t) d l (omega arith)
+      ∙ ap (λ n. get_or (ys ++ post_of a k xs) n d) at
+      ∙ get_or_append_left ys (post_of a k xs) d t h
 
--- the rows of so many states are laid
-abbrev pub FrameLaid : {W : Type 0} → Operations W → List W → ℕ → ℕ → ℕ → ℕ → List W → Type 0
-FrameLaid o table before after states r frame =
-    (s t : ℕ) → s < r → t < states → get_or frame (s * states + t) o.none ≡ o.chain (column_at o table before s) (column_at o table after t)
+-- so many rows of a frame are laid
+abbrev pub FrameLaid : {W : Type 0} → Operations W → List W → List W → ℕ → ℕ → List W → Type 0
+FrameLaid o before after states r frame =
+    (s t : ℕ) → s < r → t < states → get_or frame (s * states + t) o.none ≡ o.chain (entry_of o before s) (entry_of o after t)
 
-pub frame_more : {W : Type 0} (o : Operations W) (table : List W) (before after states r : ℕ) (old frame : List W) → FrameLaid o table before after states r old
-    → RowLaid o table (before + r) after (r * states) states old frame → FrameLaid o table before after states (r + 1) frame
-frame_more o table before after states r old frame was row s t h l =
+pub frame_more : {W : Type 0} (o : Operations W) (before after : List W) (states r k : ℕ) (frame row : List W) → FrameLaid o before after states r frame
+    → r * states ≤ length frame → length row ≡ states → ((t : ℕ) → t < states → get_or row t o.none ≡ o.chain (entry_of o before r) (entry_of o after t))
+    → FrameLaid o before after states (r + 1) (put_mid (r * states) k frame row)
+frame_more o before after states r k frame row was room long laid s t h l =
     ⊎_elim
-    (λ e. ap (λ n. get_or frame (n * states + t) o.none) e ∙ row.laid t l ∙ ap (λ n. o.chain (column_at o table before n) (column_at o table after t)) (sym e))
-    (λ ne. let u = row_under s r states (omega arith) in row.same (s * states + t) (omega arith) ∙ was s t (omega arith) l)
+    (λ e. ap (λ n. get_or (put_mid (r * states) k frame row) (n * states + t) o.none) e ∙ put_within o.none (r * states) k frame row room t (omega arith) ∙ laid t l
+    ∙ ap (λ n. o.chain (entry_of o before n) (entry_of o after t)) (sym e))
+    (λ ne. let u = row_under s r states (omega arith) in put_before o.none (r * states) k frame row room (s * states + t) (omega arith) ∙ was s t (omega arith) l)
     (cases_eq s r)
 
--- so many words are cleared
-abbrev pub Cleared : {W : Type 0} → Operations W → ℕ → List W → Type 0
-Cleared o n words = (w : ℕ) → w < n → get_or words w o.none ≡ o.none
-
-pub cleared_more : {W : Type 0} (o : Operations W) (n : ℕ) (words : List W) (x : W) → Cleared o n words → n < length words → x ≡ o.none → Cleared o (n + 1) (set words n x)
-cleared_more o n words x was room is =
-    below_more _ _ (λ w h. let ne : w ≢ n = omega arith in rw get_or-set_other (was w h)) (rw get_or-set_same is)
+-- the frame between the fronts of two columns is that between the columns
+pub frame_of : {W : Type 0} (o : Operations W) (before after frame : List W) (n : ℕ) → n ≤ length before → n ≤ length after
+    → FrameLaid o (take n before) (take n after) (length (take n after)) (length (take n before)) frame → FrameLaid o before after n n frame
+frame_of o before after frame n p q laid s t h l =
+    let b : length (take n before) ≡ n = omega (arith, length-take n before) in
+    let a : length (take n after) ≡ n = omega (arith, length-take n after) in
+    ap (λ m. get_or frame (s * m + t) o.none) (sym a) ∙ laid s t (omega arith) (omega arith)
+    ∙ ap (λ x. o.chain x (entry_of o (take n after) t)) (get_or-take n before s o.none h) ∙ ap (o.chain (entry_of o before s)) (get_or-take n after t o.none l)

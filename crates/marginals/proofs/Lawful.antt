@@ -8,7 +8,7 @@ use Rattle.paths.specs.Paths.{path_join, paths_with}
 use Rattle.paths.specs.Columns.{forward, backward}
 use Rattle.paths.specs.Joins.{Joins, offered, candidate, edges_with}
 use Rattle.paths.proofs.BitJoins.{bits_are_joins}
-use Rattle.marginals.proofs.Answered.{edge_lawful}
+use Rattle.paths.proofs.Inside.{edge_lawful}
 use Rattle.marginals.proofs.Picks.{joins_of}
 
 -- an edge offers the same between columns that agree in its states
@@ -25,5 +25,5 @@ pub over_paths : {W : Type 0} {fine : W → Type 0} {o : Operations W} → Semir
 over_paths {W} {fine} {o} laws {states} {ceiling} {bits} m law k here f g forth back b v x joins =
     bits_are_joins {fine = fine} {o = o} laws states ceiling bits m law k b v here x
     (joins_of _ _
-    (λ i. same_offer o states f g (forward o states m k) (backward o states m (suc k)) forth back (slice_get (m.edges k) i) (λ e at. let l = edge_lawful m k here law i e at in (l.from_low, l.to_low)))
+    (λ i. same_offer o states f g (forward o states m k) (backward o states m (suc k)) forth back (slice_get (m.edges k) i) (λ e at. let l = edge_lawful law k here i e at in (l.from_low, l.to_low)))
     (edges_with (m.edges k) b v) x joins)

@@ -1,4 +1,3 @@
-pub mod Answered
 pub mod Frames
 pub mod Picks
 pub mod Gatherings

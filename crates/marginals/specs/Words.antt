@@ -3,6 +3,7 @@ use Rattle.std.specs.Prelude.{ℕ, ◌+◌, ◌*◌, ◌%◌, ◌^◌, Bool, fal
 use Rattle.std.specs.List.{slice_get}
 use Rattle.paths.specs.declared.edges.Edge.{Edge}
 use Rattle.paths.specs.Semirings.{Operations}
+use Rattle.marginals.specs.declared.room.ByBit.{ByBit}
 
 -- edge i is there, and passes a test
 abbrev pub passes : (Edge → Bool) → Option Edge → Bool
@@ -20,9 +21,13 @@ word_is es w = picked es (λ e. nat_eq e.word w)
 abbrev pub word_below : List Edge → ℕ → ℕ → ℕ → Bool
 word_below es n x = picked es (λ e. nat_eq (e.word % 2 ^ n) x)
 
--- what a table holds from a place on
-abbrev pub column_at : {W : Type 0} → Operations W → List W → ℕ → ℕ → W
-column_at o table at s = slice_index_or table (at + s) o.none
+-- what a column holds at a state
+abbrev pub entry_of : {W : Type 0} → Operations W → List W → ℕ → W
+entry_of o column s = slice_index_or column s o.none
+
+-- no path with a bit 0, and none with it 1
+abbrev pub neither : {W : Type 0} → Operations W → ByBit W
+neither o = record { zero = o.none; one = o.none }
 
 -- what edge i offers, where a frame has the chained values of the states before and after, a row for each state before
 abbrev pub offered_in : {W : Type 0} → Operations W → ℕ → List W → Option Edge → W

@@ -1,62 +1,50 @@
 //! The marginals of every bit of a stage's word.
 
-ghost use Rattle.std.specs.Prelude.{◌≡◌, ℕ, suc, ◌+◌, ◌<◌, ◌≤◌, length, slice_index_or};
+ghost use Rattle.std.specs.Prelude.{◌≡◌, ℕ, suc, ◌<◌, ◌≤◌, length, slice_index_or};
 ghost use Rattle.paths.specs.Paths.{path_join, paths_with};
 ghost use Rattle.paths.specs.Columns.{forward, backward};
 ghost use Rattle.paths.specs.Joins.{Joins, candidate, edges_with};
-ghost use Rattle.marginals.specs.Words.{column_at};
+ghost use Rattle.marginals.specs.Words.{entry_of, neither};
 
 use super::frame::{clear, lay_frame};
 use super::gather::gather;
 use super::halves::fold;
-use paths::{Semiring, Trellis, Weights};
+use super::room::Room;
+use paths::{Semiring, Stage, Trellis, Weights};
 
-/// For every bit of the words of stage `k`, what its edges with that bit 0 and with that bit 1 offer between a column before the
+/// For every bit of the words of a stage, what its edges with that bit 0 and with that bit 1 offer between a column before the
 /// stage and a column after it. Each edge is asked once, and joined into its word; the words are then folded by halves.
 pub fn marginals<T: Trellis, W: Weights>(
-    t: &T,
-    k: usize,
-    table: &[W::Value],
-    before: usize,
-    after: usize,
-    costs: &mut [u32; 512],
-    frame: &mut [W::Value; 256],
-    words: &mut [W::Value; 256],
-    zeros: &mut [W::Value; 8],
-    ones: &mut [W::Value; 8],
+    stage: &Stage<T>,
+    before: &[W::Value],
+    after: &[W::Value],
+    room: &mut Room<W::Value>,
 )
-    requires stage { k < (T.meaning t.now).stages }
-    requires columns { (before + T.states ≤ length table.now) × (after + T.states ≤ length table.now) }
-    ensures zero { (b : ℕ) → b < T.bits t.now → Joins W.ops (candidate W.ops (column_at W.ops table.now before) (column_at W.ops table.now after) ((T.meaning t.now).edges k)) (edges_with ((T.meaning t.now).edges k) b 0) (slice_index_or zeros.new b W.ops.none) }
-    ensures one { (b : ℕ) → b < T.bits t.now → Joins W.ops (candidate W.ops (column_at W.ops table.now before) (column_at W.ops table.now after) ((T.meaning t.now).edges k)) (edges_with ((T.meaning t.now).edges k) b 1) (slice_index_or ones.new b W.ops.none) }
+    requires columns { (T.states ≤ length before.now) × (T.states ≤ length after.now) }
+    ensures zero { (b : ℕ) → b < T.bits stage.now.trellis.now → Joins W.ops (candidate W.ops (entry_of W.ops before.now) (entry_of W.ops after.now) ((T.meaning stage.now.trellis.now).edges stage.now.number)) (edges_with ((T.meaning stage.now.trellis.now).edges stage.now.number) b 0) (slice_index_or room.new.bits b (neither W.ops)).zero }
+    ensures one { (b : ℕ) → b < T.bits stage.now.trellis.now → Joins W.ops (candidate W.ops (entry_of W.ops before.now) (entry_of W.ops after.now) ((T.meaning stage.now.trellis.now).edges stage.now.number)) (edges_with ((T.meaning stage.now.trellis.now).edges stage.now.number) b 1) (slice_index_or room.new.bits b (neither W.ops)).one }
 {
-    let bits = t.bits();
-    lay_frame::<W>(table, before, after, T::state_count(), frame);
-    clear::<W>(bits, words);
-    gather::<T, W>(t, k, frame, costs, words);
-    fold::<W>(bits, words, zeros, ones);
+    let states = T::state_count();
+    let bits = stage.trellis.bits();
+    lay_frame::<W>(&before[..states], &after[..states], &mut room.frame[..]);
+    clear::<W>(bits, &mut room.words);
+    gather::<T, W>(stage, &room.frame, &mut room.costs, &mut room.words);
+    fold::<W>(bits, &mut room.words, &mut room.bits);
 }
 
-/// The same over a semiring, between the forward column before stage `k` and the backward column after it: the joins over all
-/// paths on which a bit of the word of stage `k` is 0, and on which it is 1.
+/// The same over a semiring, between the forward column before the stage and the backward column after it: the joins over all
+/// paths on which a bit of the word of the stage is 0, and on which it is 1.
 pub fn bit_joins<T: Trellis, W: Semiring>(
-    t: &T,
-    k: usize,
-    table: &[W::Value],
-    before: usize,
-    after: usize,
-    costs: &mut [u32; 512],
-    frame: &mut [W::Value; 256],
-    words: &mut [W::Value; 256],
-    zeros: &mut [W::Value; 8],
-    ones: &mut [W::Value; 8],
+    stage: &Stage<T>,
+    before: &[W::Value],
+    after: &[W::Value],
+    room: &mut Room<W::Value>,
 )
-    requires stage { k < (T.meaning t.now).stages }
-    requires columns { (before + T.states ≤ length table.now) × (after + T.states ≤ length table.now) }
-    requires forth { (s : ℕ) → s < T.states → slice_index_or table.now (before + s) W.Weights.ops.none ≡ forward W.Weights.ops T.states (T.meaning t.now) k s }
-    requires back { (s : ℕ) → s < T.states → slice_index_or table.now (after + s) W.Weights.ops.none ≡ backward W.Weights.ops T.states (T.meaning t.now) (suc k) s }
-    ensures zero { (b : ℕ) → b < T.bits t.now → slice_index_or zeros.new b W.Weights.ops.none ≡ path_join W.Weights.ops (paths_with T.states (T.meaning t.now) k b 0) }
-    ensures one { (b : ℕ) → b < T.bits t.now → slice_index_or ones.new b W.Weights.ops.none ≡ path_join W.Weights.ops (paths_with T.states (T.meaning t.now) k b 1) }
+    requires columns { (T.states ≤ length before.now) × (T.states ≤ length after.now) }
+    requires forth { (s : ℕ) → s < T.states → slice_index_or before.now s W.Weights.ops.none ≡ forward W.Weights.ops T.states (T.meaning stage.now.trellis.now) stage.now.number s }
+    requires back { (s : ℕ) → s < T.states → slice_index_or after.now s W.Weights.ops.none ≡ backward W.Weights.ops T.states (T.meaning stage.now.trellis.now) (suc stage.now.number) s }
+    ensures zero { (b : ℕ) → b < T.bits stage.now.trellis.now → (slice_index_or room.new.bits b (neither W.Weights.ops)).zero ≡ path_join W.Weights.ops (paths_with T.states (T.meaning stage.now.trellis.now) stage.now.number b 0) }
+    ensures one { (b : ℕ) → b < T.bits stage.now.trellis.now → (slice_index_or room.new.bits b (neither W.Weights.ops)).one ≡ path_join W.Weights.ops (paths_with T.states (T.meaning stage.now.trellis.now) stage.now.number b 1) }
 {
-    marginals::<T, W>(t, k, table, before, after, costs, frame, words, zeros, ones);
+    marginals::<T, W>(stage, before, after, room);
 }

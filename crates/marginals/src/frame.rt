@@ -1,45 +1,30 @@
 //! The frame of a stage: what leads to each state before it, chained with what leads on from each state after it.
 
 ghost use Rattle.std.specs.Prelude.{◌≡◌, ℕ, ◌+◌, ◌*◌, ◌^◌, ◌<◌, ◌≤◌, length, slice_index_or};
-ghost use Rattle.marginals.specs.Words.{column_at};
+ghost use Rattle.marginals.specs.Words.{entry_of};
 
 use super::halves::word_count;
 use paths::Weights;
 
-// One row of a frame, for the state before the stage whose value stands at `from`.
-fn lay_row<W: Weights>(
-    table: &[W::Value],
-    from: usize,
-    after: usize,
-    states: usize,
-    row: usize,
-    frame: &mut [W::Value; 256],
-)
-    requires columns { (from < length table.now) × (after + states ≤ length table.now) }
-    requires room { row + states ≤ 256 }
-    ensures same { (p : ℕ) → p < row → slice_index_or frame.new p W.ops.none ≡ slice_index_or frame.old p W.ops.none }
-    ensures laid { (t : ℕ) → t < states → slice_index_or frame.new (row + t) W.ops.none ≡ W.ops.chain (slice_index_or table.now from W.ops.none) (column_at W.ops table.now after t) }
+// One row of a frame, for a state before the stage to which `x` leads.
+fn lay_row<W: Weights>(x: W::Value, after: &[W::Value], row: &mut [W::Value])
+    requires { length row.old ≡ length after.now }
+    ensures { (t : ℕ) → t < length after.now → slice_index_or row.new t W.ops.none ≡ W.ops.chain x (entry_of W.ops after.now t) }
 {
-    let x = table[from];
-    for t in 0..states {
-        frame[row + t] = W::chain(x, table[after + t]);
+    for (t, cell) in row.iter_mut().enumerate() {
+        *cell = W::chain(x, after[t]);
     }
 }
 
-/// Lays the frame between two columns of a table, a row for each state before the stage.
-pub(crate) fn lay_frame<W: Weights>(
-    table: &[W::Value],
-    before: usize,
-    after: usize,
-    states: usize,
-    frame: &mut [W::Value; 256],
-)
-    requires few { states ≤ 16 }
-    requires columns { (before + states ≤ length table.now) × (after + states ≤ length table.now) }
-    ensures { (s t : ℕ) → s < states → t < states → slice_index_or frame.new (s * states + t) W.ops.none ≡ W.ops.chain (column_at W.ops table.now before s) (column_at W.ops table.now after t) }
+/// Lays the frame between two columns, a row for each state before the stage.
+pub(crate) fn lay_frame<W: Weights>(before: &[W::Value], after: &[W::Value], frame: &mut [W::Value])
+    requires square { length after.now ≡ length before.now }
+    requires room { length before.now * length after.now ≤ length frame.old }
+    ensures { (s t : ℕ) → s < length before.now → t < length after.now → slice_index_or frame.new (s * length after.now + t) W.ops.none ≡ W.ops.chain (entry_of W.ops before.now s) (entry_of W.ops after.now t) }
 {
-    for s in 0..states {
-        lay_row::<W>(table, before + s, after, states, s * states, frame);
+    let states = after.len();
+    for (s, x) in before.iter().enumerate() {
+        lay_row::<W>(*x, after, &mut frame[s * states..s * states + states]);
     }
 }
 
@@ -48,7 +33,8 @@ pub(crate) fn clear<W: Weights>(bits: usize, words: &mut [W::Value; 256])
     requires { bits ≤ 8 }
     ensures { (w : ℕ) → w < 2 ^ bits → slice_index_or words.new w W.ops.none ≡ W.ops.none }
 {
-    for w in 0..word_count(bits) {
-        words[w] = W::none();
+    // `fill` needs to know that a value's clone is the value, which `Copy` alone does not say.
+    for word in &mut words[..word_count(bits)] {
+        *word = W::none();
     }
 }

@@ -4,7 +4,7 @@ ghost use Rattle.std.specs.Prelude.{◌≡◌, ℕ, ◌+◌, ◌*◌, ◌^◌, �
 ghost use Rattle.paths.specs.Joins.{Joins};
 ghost use Rattle.marginals.specs.Words.{word_is, framed};
 
-use paths::{Trellis, Weights};
+use paths::{Stage, Trellis, Weights};
 
 // What an edge between two states offers at a cost.
 fn offer<W: Weights>(
@@ -20,26 +20,21 @@ fn offer<W: Weights>(
     W::chain(frame[from * states + to], W::value(cost))
 }
 
-/// Asks the costs of stage `k` once and each edge once, and joins what the edge offers to its word.
+/// Asks the costs of a stage once and each edge once, and joins what the edge offers to its word.
 pub(crate) fn gather<T: Trellis, W: Weights>(
-    t: &T,
-    k: usize,
+    stage: &Stage<T>,
     frame: &[W::Value; 256],
     costs: &mut [u32; 512],
     words: &mut [W::Value; 256],
 )
-    requires stage { k < (T.meaning t.now).stages }
-    requires clear { (w : ℕ) → w < 2 ^ T.bits t.now → slice_index_or words.old w W.ops.none ≡ W.ops.none }
-    ensures { (w : ℕ) → w < 2 ^ T.bits t.now → Joins W.ops (framed W.ops T.states frame.now ((T.meaning t.now).edges k)) (word_is ((T.meaning t.now).edges k) w) (slice_index_or words.new w W.ops.none) }
+    requires clear { (w : ℕ) → w < 2 ^ T.bits stage.now.trellis.now → slice_index_or words.old w W.ops.none ≡ W.ops.none }
+    ensures { (w : ℕ) → w < 2 ^ T.bits stage.now.trellis.now → Joins W.ops (framed W.ops T.states frame.now ((T.meaning stage.now.trellis.now).edges stage.now.number)) (word_is ((T.meaning stage.now.trellis.now).edges stage.now.number) w) (slice_index_or words.new w W.ops.none) }
 {
     let states = T::state_count();
-    t.costs(k, costs);
-    let Some(count) = t.edge_count(k) else {
-        unreachable()
-    };
-    for i in 0..count {
-        let Some(e) = t.edge(k, i) else { unreachable() };
-        let more = offer::<W>(frame, states, e.from, e.to, costs[i]);
+    stage.costs(costs);
+    for (i, cost) in costs[..stage.edge_count()].iter().enumerate() {
+        let e = stage.edge(i);
+        let more = offer::<W>(frame, states, e.from, e.to, *cost);
         let w = usize::from(e.word);
         words[w] = W::join(words[w], more);
     }

@@ -6,5 +6,7 @@ mod bits;
 mod frame;
 mod gather;
 mod halves;
+mod room;
 
 pub use bits::{bit_joins, marginals};
+pub use room::{ByBit, Room};

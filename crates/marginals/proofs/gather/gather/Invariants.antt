@@ -6,5 +6,5 @@ use Rattle.marginals.proofs.gather.gather.Given as goal
 
 abbrev pub invariant-loop-i : goal.invariant-loop-i
 invariant-loop-i g l =
-    let es = (g.T.Trellis.meaning l.t).edges l.k in
-    Gathered g.W.Weights.ops (framed g.W.Weights.ops g.T.Trellis.states l.frame es) es (2 ^ g.T.Trellis.bits l.t) l.i l.words
+    let es = (g.T.Trellis.meaning l.stage.trellis.now).edges l.stage.number in
+    Gathered g.W.Weights.ops (framed g.W.Weights.ops g.T.Trellis.states l.frame es) es (2 ^ g.T.Trellis.bits l.stage.trellis.now) l.i l.words

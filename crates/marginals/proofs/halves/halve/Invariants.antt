@@ -3,4 +3,4 @@ use Rattle.marginals.proofs.Halvings.{HalfWay}
 use Rattle.marginals.proofs.halves.halve.Given as goal
 
 abbrev pub invariant-loop-x : goal.invariant-loop-x
-invariant-loop-x g l = HalfWay g.W.Weights.ops l.b l.x l.initial.words l.words l.zero l.one
+invariant-loop-x g l = HalfWay g.W.Weights.ops l.x l.initial.lows l.highs l.lows l.zero l.one
