@@ -1,5 +1,2 @@
-pub mod Told
 pub mod Bounds
-pub mod Columns
-pub mod Offers
 pub mod Stages

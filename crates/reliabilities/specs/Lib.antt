@@ -1,2 +1,4 @@
 pub mod Kept
 pub mod Bounds
+pub mod LeastTells
+pub mod ModuloTells

@@ -3,82 +3,42 @@
 ghost use Rattle.std.specs.Prelude.{◌≡◌, ℕ, suc, ◌+◌, ◌*◌, ◌<◌, ◌≤◌, length, None, slice_index, slice_index_or};
 ghost use Rattle.paths.specs.Paths.{path_join, paths_with, before, after};
 ghost use Rattle.paths.specs.Least.{least};
+ghost use Rattle.marginals.specs.Words.{neither};
 ghost use Rattle.modulo.specs.Modulo.{reliability};
-ghost use Rattle.reliabilities.specs.Kept.{kept_modulo};
 ghost use Rattle.reliabilities.specs.Bounds.{Bounded};
 
-use super::costs::from_costs;
-use super::modular::from_modulo;
-use super::room::Room;
-use marginals::{bit_joins, marginals};
-use modulo::ModuloCost;
-use paths::{LeastCost, Trellis};
+use super::keeping::CostKeeping;
+use marginals::{ByBit, Room, marginals};
+use paths::{Stage, Trellis};
 
-/// From the column of least costs before stage `k`, which stands in the table at `front`, and the one after it, at `back`.
-pub fn least_bits<T: Trellis>(
-    t: &T,
-    k: usize,
-    table: &[u32],
-    front: usize,
-    back: usize,
-    room: &mut Room,
-    out: &mut [Option<i32>; 8],
-)
-    requires stage { k < (T.meaning t.now).stages }
-    requires columns { (front + T.states ≤ length table.now) × (back + T.states ≤ length table.now) }
-    requires cheap { T.ceiling < 131072 }
-    requires forth { (s : ℕ) → s < T.states → slice_index table.now (front + s) ≡ path_join least (before T.states (T.meaning t.now) k s) }
-    requires onward { (s : ℕ) → s < T.states → slice_index table.now (back + s) ≡ path_join least (after (T.meaning t.now) (suc k) s) }
-    ensures told { (b : ℕ) → b < T.bits t.now → slice_index_or out.new b None ≡ reliability (path_join least (paths_with T.states (T.meaning t.now) k b 0)) (path_join least (paths_with T.states (T.meaning t.now) k b 1)) }
-    ensures bound { 1 ≤ T.reach → (b : ℕ) → b < T.bits t.now → Bounded ((2 * T.reach + 1) * T.ceiling) (slice_index_or out.new b None) }
-    ensures sixteen { 1 ≤ T.reach → (2 * T.reach + 1) * T.ceiling < 32768 → (b : ℕ) → b < T.bits t.now → Bounded 32767 (slice_index_or out.new b None) }
+// The reliability of each of so many bits.
+fn tell<W: CostKeeping>(bits: usize, found: &[ByBit<u32>; 8], out: &mut [Option<i32>; 8])
+    requires few { bits ≤ 8 }
+    requires can { (b : ℕ) → b < bits → W.CanTell (slice_index_or found.now b (neither W.Weights.ops)).zero (slice_index_or found.now b (neither W.Weights.ops)).one }
+    ensures { (b : ℕ) → b < bits → slice_index_or out.new b None ≡ W.told (slice_index_or found.now b (neither W.Weights.ops)).zero (slice_index_or found.now b (neither W.Weights.ops)).one }
 {
-    bit_joins::<T, LeastCost>(
-        t,
-        k,
-        table,
-        front,
-        back,
-        &mut room.costs,
-        &mut room.frame,
-        &mut room.words,
-        &mut room.zeros,
-        &mut room.ones,
-    );
-    from_costs(t.bits(), &room.zeros, &room.ones, out);
+    for (b, told) in out[..bits].iter_mut().enumerate() {
+        *told = W::reliability(found[b].zero, found[b].one);
+    }
 }
 
-/// The same by modulo normalisation, for a trellis that it serves: the columns hold the least costs modulo 65,536, and the
-/// reliabilities are the true ones.
-pub fn modulo_bits<T: Trellis>(
-    t: &T,
-    k: usize,
-    table: &[u32],
-    front: usize,
-    back: usize,
-    room: &mut Room,
+/// The reliability of every bit of the word of a stage, into the front of `out`: between a column that keeps the least costs
+/// before the stage and one that keeps those after it, the least cost over all paths with the bit 0 less that with the bit 1.
+pub fn stage_bits<T: Trellis, W: CostKeeping>(
+    stage: &Stage<T>,
+    front: &[u32],
+    back: &[u32],
+    room: &mut Room<u32>,
     out: &mut [Option<i32>; 8],
 )
-    requires stage { k < (T.meaning t.now).stages }
-    requires columns { (front + T.states ≤ length table.now) × (back + T.states ≤ length table.now) }
-    requires served { (1 ≤ T.reach) × ((2 * T.reach + 1) * T.ceiling < 32768) }
-    requires forth { (s : ℕ) → s < T.states → slice_index table.now (front + s) ≡ kept_modulo (path_join least (before T.states (T.meaning t.now) k s)) }
-    requires onward { (s : ℕ) → s < T.states → slice_index table.now (back + s) ≡ kept_modulo (path_join least (after (T.meaning t.now) (suc k) s)) }
-    ensures told { (b : ℕ) → b < T.bits t.now → slice_index_or out.new b None ≡ reliability (path_join least (paths_with T.states (T.meaning t.now) k b 0)) (path_join least (paths_with T.states (T.meaning t.now) k b 1)) }
-    ensures bound { (b : ℕ) → b < T.bits t.now → Bounded ((2 * T.reach + 1) * T.ceiling) (slice_index_or out.new b None) }
-    ensures sixteen { (b : ℕ) → b < T.bits t.now → Bounded 32767 (slice_index_or out.new b None) }
+    requires columns { (T.states ≤ length front.now) × (T.states ≤ length back.now) }
+    requires served { W.Serves T.reach T.ceiling }
+    requires forth { (s : ℕ) → s < T.states → slice_index front.now s ≡ W.kept (path_join least (before T.states (T.meaning stage.now.trellis.now) stage.now.number s)) }
+    requires onward { (s : ℕ) → s < T.states → slice_index back.now s ≡ W.kept (path_join least (after (T.meaning stage.now.trellis.now) (suc stage.now.number) s)) }
+    ensures told { (b : ℕ) → b < T.bits stage.now.trellis.now → slice_index_or out.new b None ≡ reliability (path_join least (paths_with T.states (T.meaning stage.now.trellis.now) stage.now.number b 0)) (path_join least (paths_with T.states (T.meaning stage.now.trellis.now) stage.now.number b 1)) }
+    ensures bound { 1 ≤ T.reach → T.ceiling < 131072 → (b : ℕ) → b < T.bits stage.now.trellis.now → Bounded ((2 * T.reach + 1) * T.ceiling) (slice_index_or out.new b None) }
+    ensures sixteen { 1 ≤ T.reach → (2 * T.reach + 1) * T.ceiling < 32768 → (b : ℕ) → b < T.bits stage.now.trellis.now → Bounded 32767 (slice_index_or out.new b None) }
 {
-    marginals::<T, ModuloCost>(
-        t,
-        k,
-        table,
-        front,
-        back,
-        &mut room.costs,
-        &mut room.frame,
-        &mut room.words,
-        &mut room.zeros,
-        &mut room.ones,
-    );
-    from_modulo(t.bits(), &room.zeros, &room.ones, out);
+    marginals::<T, W>(stage, front, back, room);
+    tell::<W>(stage.trellis.bits(), &room.bits, out);
 }

@@ -3,9 +3,7 @@
 #![tactic(auto)]
 
 mod bits;
-mod costs;
-mod modular;
-mod room;
+mod keeping;
 
-pub use bits::{least_bits, modulo_bits};
-pub use room::Room;
+pub use bits::stage_bits;
+pub use keeping::CostKeeping;

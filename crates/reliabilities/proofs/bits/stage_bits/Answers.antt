@@ -1,0 +1,43 @@
+-- The joins between the two columns tell each bit.
+use Rattle.std.proofs.Common.{ℕ, ◌+◌, ◌*◌, ◌<◌, ◌≤◌, ◌∙◌, mul-le-mul_right, arith}
+use Rattle.std.proofs.lemmas.List.{get_or_default}
+use Rattle.marginals.specs.Words.{entry_of}
+use Rattle.reliabilities.specs.ModuloTells.{connected}
+use Rattle.reliabilities.proofs.Bounds.{wider}
+use Rattle.reliabilities.proofs.Stages.{TrueBits, told_bounded}
+use Rattle.reliabilities.proofs.bits.stage_bits.Goals as goal
+
+pub tell-requires-clause-can : goal.tell-requires-clause-can
+tell-requires-clause-can g c b low =
+    let s = c.args.stage.now in
+    let t = s.trellis.now in
+    let o = g.W.Weights.ops in
+    let is = c.bits.ensures in
+    let e = c.marginals.ensures in
+    let f = λ (x : ℕ) (h : x < g.T.Trellis.states). get_or_default c.args.front.now x o.none 0 (omega arith) ∙ c.requires.forth x h in
+    let k = λ (x : ℕ) (h : x < g.T.Trellis.states). get_or_default c.args.back.now x o.none 0 (omega arith) ∙ c.requires.onward x h in
+    (g.met.W.CostKeeping.tells _ _ _ _ (g.T.Trellis.meaning t) (g.T.Trellis.lawful t) (g.T.Trellis.reaches t) c.requires.served s.number s.inside
+    (entry_of o c.args.front.now) (entry_of o c.args.back.now) f k b _ _ (e.zero b (omega arith)) (e.one b (omega arith))).0
+
+pub returns : goal.returns
+returns g c =
+    let s = c.args.stage.now in
+    let t = s.trellis.now in
+    let m = g.T.Trellis.meaning t in
+    let law = g.T.Trellis.lawful t in
+    let o = g.W.Weights.ops in
+    let is = c.bits.ensures in
+    let e = c.marginals.ensures in
+    let f = λ (x : ℕ) (h : x < g.T.Trellis.states). get_or_default c.args.front.now x o.none 0 (omega arith) ∙ c.requires.forth x h in
+    let k = λ (x : ℕ) (h : x < g.T.Trellis.states). get_or_default c.args.back.now x o.none 0 (omega arith) ∙ c.requires.onward x h in
+    let told : TrueBits g.T.Trellis.states m s.number (g.T.Trellis.bits t) c.tell.new.out = λ b low.
+    c.tell.ensures b (omega arith)
+    ∙ (g.met.W.CostKeeping.tells _ _ _ _ m law (g.T.Trellis.reaches t) c.requires.served s.number s.inside
+    (entry_of o c.args.front.now) (entry_of o c.args.back.now) f k b _ _ (e.zero b low) (e.one b low)).1 in
+    record {
+      told = told;
+      bound = λ some cheap b low. told_bounded m (connected m law (g.T.Trellis.reaches t) some cheap) s.number b s.inside _ (told b low);
+      sixteen = λ some modest b low.
+          let three : 3 * g.T.Trellis.ceiling ≤ (2 * g.T.Trellis.reach + 1) * g.T.Trellis.ceiling = mul-le-mul_right g.T.Trellis.ceiling (omega arith) in
+          wider _ 32767 (omega arith) _ (told_bounded m (connected m law (g.T.Trellis.reaches t) some (omega arith)) s.number b s.inside _ (told b low));
+    }
