@@ -1,11 +1,13 @@
 -- Where the columns on both sides of a stage stand in a work table.
-use Rattle.std.proofs.Common.{◌≡◌, ℕ, suc, ◌+◌, ◌-◌, ◌*◌, ◌<◌, ◌≤◌, ltb, List, length, get_or, refl, ap, ◌∙◌, le_refl, suc-mul, mul-le-mul, arith}
+use Rattle.std.proofs.Common.{◌≡◌, ℕ, suc, ◌+◌, ◌-◌, ◌*◌, ◌<◌, ◌≤◌, ltb, List, length, get_or, take, drop, length-take, length-drop, refl, ap, ◌⊎◌, ⊎_elim, ◌∙◌, le_refl, suc-mul, mul-le-mul, arith}
 use Rattle.std.proofs.lemmas.Nat.{div-mul-add, mod-mul-add}
 use Rattle.std.proofs.lemmas.Bool.{lt-ltb, le-ltb}
+use Rattle.std.proofs.lemmas.List.{get_or-take, get_or-drop}
 use Rattle.paths.specs.Trellises.{Meaning}
 use Rattle.paths.specs.Paths.{path_join, before, after}
 use Rattle.paths.specs.Least.{least}
 use Rattle.ways.specs.declared.names.Way.{Way}
+use Rattle.ways.specs.declared.names.Way.TheVariants.{Columns, Metastages}
 use Rattle.ways.specs.Ways.{kept_as}
 use Rattle.ways.specs.WorkTables.{work_entry, column_entries}
 
@@ -34,23 +36,44 @@ back_entry way states m k s p at l h =
     let near : ltb (k * states + s) (column_entries states m) ≡ _ = lt-ltb (k * states + s) (column_entries states m) (omega arith) in
     rw (far, q, near, div-mul-add k states s h, mod-mul-add k states s h) refl
 
--- the same read from a table, at the places that the code computes
-module _ (way : Way) (states : ℕ) (m : Meaning) (table : List ℕ) (k sc st : ℕ) (e : sc ≡ states) (f : st ≡ m.stages) (low : k < m.stages) (long : m.stages * states + states + (m.stages * states + states) ≤ length table) (worked : (p : ℕ) → p < m.stages * states + states + (m.stages * states + states) → get_or table p 0 ≡ work_entry way states m p) where
-  pub fits : (k * sc + states ≤ length table) × (st * sc + sc + k * sc + sc + states ≤ length table)
+-- a part of n entries from a place on, at an entry of it
+pub part_entry : (table : List ℕ) (at n s : ℕ) → s < n → get_or (take (at + n - at) (drop at table)) s 0 ≡ get_or table (at + s) 0
+part_entry table at n s h =
+    let many : at + n - at ≡ n = omega arith in
+    ap (λ m. get_or (take m (drop at table)) s 0) many ∙ get_or-take n (drop at table) s 0 h ∙ get_or-drop at table s 0
+
+-- the two columns on both sides of a stage, read from a table at the places that the code computes
+module _ (way : Way) (states : ℕ) (m : Meaning) (table : List ℕ) (k sc st : ℕ) (e : sc ≡ states) (f : st ≡ m.stages) (low : k < m.stages)
+    (long : m.stages * states + states + (m.stages * states + states) ≤ length table)
+    (worked : (p : ℕ) → p < m.stages * states + states + (m.stages * states + states) → get_or table p 0 ≡ work_entry way states m p) where
+  pub fits : (k * sc + sc ≤ length table) × (st * sc + sc + k * sc + sc + sc ≤ length table)
   fits =
       let h : suc k * states ≤ m.stages * states = mul-le-mul low (le_refl states) in
       let z = suc-mul k states in
       (rw e (omega arith), rw (e, f) (omega arith))
 
-  pub front_of : (s : ℕ) → s < states → get_or table (k * sc + s) 0 ≡ kept_as way (path_join least (before states m k s))
+  pub columns_there : (states ≤ length (take (k * sc + sc - k * sc) (drop (k * sc) table)))
+      × (states ≤ length (take (st * sc + sc + k * sc + sc + sc - (st * sc + sc + k * sc + sc)) (drop (st * sc + sc + k * sc + sc) table)))
+  columns_there = let r = fits in (simp (length-take, length-drop) (omega arith), simp (length-take, length-drop) (omega arith))
+
+  pub front_of : (s : ℕ) → s < states → get_or (take (k * sc + sc - k * sc) (drop (k * sc) table)) s 0 ≡ kept_as way (path_join least (before states m k s))
   front_of s h =
       let i = inside states m.stages k s (omega arith) h in
-      ap (λ x. get_or table (k * x + s) 0) e ∙ worked (k * states + s) (omega arith) ∙ front_entry way states m k s (omega arith) h
+      part_entry table (k * sc) sc s (omega arith) ∙ ap (λ x. get_or table (k * x + s) 0) e ∙ worked (k * states + s) (omega arith) ∙ front_entry way states m k s (omega arith) h
 
-  pub back_of : (s : ℕ) → s < states → get_or table (st * sc + sc + k * sc + sc + s) 0 ≡ kept_as way (path_join least (after m (suc k) s))
+  pub back_of : (s : ℕ) → s < states
+      → get_or (take (st * sc + sc + k * sc + sc + sc - (st * sc + sc + k * sc + sc)) (drop (st * sc + sc + k * sc + sc) table)) s 0 ≡ kept_as way (path_join least (after m (suc k) s))
   back_of s h =
       let i = inside states m.stages (suc k) s low h in
       let z = suc-mul k states in
       let at : st * sc + sc + k * sc + sc + s ≡ m.stages * states + states + (suc k * states + s) = rw (e, f) (omega arith) in
-      ap (λ x. get_or table x 0) at ∙ worked (m.stages * states + states + (suc k * states + s)) (omega arith)
+      part_entry table (st * sc + sc + k * sc + sc) sc s (omega arith)
+      ∙ ap (λ x. get_or table x 0) at ∙ worked (m.stages * states + states + (suc k * states + s)) (omega arith)
       ∙ back_entry way states m (suc k) s (m.stages * states + states + (suc k * states + s)) refl low h
+
+-- where the table is kept as another way would keep it
+pub as_is : (way other : Way) → way ≡ other → (x y : ℕ) → x ≡ kept_as way y → x ≡ kept_as other y
+as_is way other e x y h = h ∙ ap (λ w. kept_as w y) e
+
+pub least_kept : (way : Way) → (way ≡ Columns) ⊎ (way ≡ Metastages) → (x y : ℕ) → x ≡ kept_as way y → x ≡ y
+least_kept way is x y h = ⊎_elim (λ e. as_is way Columns e x y h) (λ e. as_is way Metastages e x y h) is
