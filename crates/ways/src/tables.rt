@@ -28,42 +28,11 @@ fn sweep<T: Trellis, W: Weights>(t: &T, table: &mut [W::Value]) -> usize
 
 // Clears every entry from `from` on.
 fn zero_from(table: &mut [u32], from: usize)
+    requires { from ≤ length table.old }
     ensures kept { (p : ℕ) → p < from → slice_index table.new p ≡ slice_index table.old p }
     ensures zero { (p : ℕ) → from ≤ p → p < length table.new → slice_index table.new p ≡ 0 }
 {
-    for i in from..table.len() {
-        table[i] = 0;
-    }
-}
-
-// Columns of least costs.
-fn columns_work<T: Trellis>(t: &T, table: &mut [u32])
-    requires { columns_size T.states (T.meaning t.now).stages + columns_size T.states (T.meaning t.now).stages + levels_room T.states (T.meaning t.now).stages ≤ length table.old }
-    ensures { (p : ℕ) → p < length table.new → slice_index table.new p ≡ work_entry Way.Columns T.states (T.meaning t.now) p }
-{
-    let base = sweep::<T, LeastCost>(t, table);
-    zero_from(table, base);
-}
-
-// Columns of least costs, with every level of metastages behind them.
-fn metastages_work<T: Trellis>(t: &T, table: &mut [u32])
-    requires { columns_size T.states (T.meaning t.now).stages + columns_size T.states (T.meaning t.now).stages + levels_room T.states (T.meaning t.now).stages ≤ length table.old }
-    ensures { (p : ℕ) → p < length table.new → slice_index table.new p ≡ work_entry Way.Metastages T.states (T.meaning t.now) p }
-{
-    let base = sweep::<T, LeastCost>(t, table);
-    let level = levels::<T, LeastCost>(t, table, base);
-    let end = place_of(base, T::state_count(), t.stages(), level, 1);
-    zero_from(table, end);
-}
-
-// Columns in numbers modulo 65,536.
-fn modular_work<T: Trellis>(t: &T, table: &mut [u32])
-    requires room { columns_size T.states (T.meaning t.now).stages + columns_size T.states (T.meaning t.now).stages + levels_room T.states (T.meaning t.now).stages ≤ length table.old }
-    requires served { (1 ≤ T.reach) × ((2 * T.reach + 1) * T.ceiling < 32768) }
-    ensures { (p : ℕ) → p < length table.new → slice_index table.new p ≡ work_entry Way.Modular T.states (T.meaning t.now) p }
-{
-    let base = sweep::<T, ModuloCost>(t, table);
-    zero_from(table, base);
+    table[from..].fill(0);
 }
 
 /// Works a pass in the way that is named, and leaves its columns and metastages in the table; whatever else stood there is cleared.
@@ -73,9 +42,15 @@ pub fn work<T: Trellis>(way: Way, t: &T, table: &mut [u32])
     ensures table { (p : ℕ) → p < length table.new → slice_index table.new p ≡ work_entry way T.states (T.meaning t.now) p }
     ensures whole { table.new ≡ work_table way T.states (T.meaning t.now) (length table.old) }
 {
-    match way {
-        Way::Columns => columns_work(t, table),
-        Way::Metastages => metastages_work(t, table),
-        Way::Modular => modular_work(t, table),
-    }
+    // A way comes as a value, and there are three: each lays columns in one of two forms, and one of them metastages behind.
+    let used = match way {
+        Way::Columns => sweep::<T, LeastCost>(t, table),
+        Way::Metastages => {
+            let base = sweep::<T, LeastCost>(t, table);
+            let level = levels::<T, LeastCost>(t, table, base);
+            place_of(base, T::state_count(), t.stages(), level, 1)
+        }
+        Way::Modular => sweep::<T, ModuloCost>(t, table),
+    };
+    zero_from(table, used);
 }
