@@ -13,4 +13,4 @@ pub use laws::{
     spread_holds,
 };
 pub use modular::{nearer_of, reliability_of, sum_of};
-pub use reliabilities::{least_reliability, sent_on};
+pub use reliabilities::{least_reliability, sent_on, told};

@@ -2,10 +2,12 @@
 
 ghost use Rattle.std.specs.Prelude.{◌≡◌};
 ghost use Rattle.modulo.specs.Modulo.{reliability};
-ghost use Rattle.modulo.specs.Priors.{extrinsic};
+ghost use Rattle.modulo.specs.Priors.{extrinsic, told_of};
 ghost use Rattle.modulo.specs.Spread.{Near};
 
+// A number and no `Option` stands for the cost of what cannot be: it lies among the others in the columns and the work table.
 /// The least cost with the bit 0 less the least cost with it 1; none where the bit is forced, for 4,294,967,295 is the cost of what cannot be.
+#[tactic(auto, using(std::proofs::lemmas::Bool::Decides::nat_tests), unfolding(crate::specs::Modulo::reliability))]
 pub fn least_reliability(zero: u32, one: u32) -> Option<i32>
     requires { Near 2147483647 zero one }
     ensures { result ≡ reliability zero one }
@@ -23,4 +25,11 @@ pub fn sent_on(reliability: i32, prior: i16) -> i16
 {
     let news = i64::from(reliability) - i64::from(prior);
     news.clamp(-511, 511) as i16
+}
+
+/// The number that is sent on about a bit, 0 where the bit is forced.
+pub fn told(reliability: Option<i32>, prior: i16) -> i16
+    ensures { result ≡ told_of reliability prior }
+{
+    reliability.map_or(0, |r| sent_on(r, prior))
 }

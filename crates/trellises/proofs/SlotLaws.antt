@@ -60,21 +60,18 @@ pub slots_doubled : (j size : ℕ) (xs ys : List ℕ) → size ≡ 2 ^ j
     → ((w : ℕ) → w < 2 ^ j → get_or xs w 0 ≡ slot_of 0 w j)
     → ((w : ℕ) → w < size → get_or ys w 0 ≡ 2 * get_or xs w 0 + get_or xs w 0 % 2)
     → ((w : ℕ) → w < size → get_or ys (size + w) 0 ≡ 2 * get_or xs w 0 + (1 - get_or xs w 0 % 2))
-    → (size * 2 ≡ 2 ^ (j + 1)) × ((w : ℕ) → w < 2 ^ (j + 1) → get_or ys w 0 ≡ slot_of 0 w (j + 1))
+    → (w : ℕ) → w < 2 ^ (j + 1) → get_or ys w 0 ≡ slot_of 0 w (j + 1)
 slots_doubled j size xs ys s inv low high =
     let p : 2 ^ suc j ≡ 2 * 2 ^ j = pow-succ' 2 j in
-    rw add-one (
-      omega arith,
-      λ w h. ⊎_elim
-          (λ (l : w < 2 ^ j). low w (omega arith) ∙ ap (λ x. 2 * x + x % 2) (inv w l) ∙ sym (slot_zero j w l))
-          (λ (l : 2 ^ j ≤ w).
-          let v = w - 2 ^ j in
-          let k : v < 2 ^ j = omega arith in
-          let e : size + v ≡ w = omega arith in
-          let f : 2 ^ j + v ≡ w = omega arith in
-          ap (λ x. get_or ys x 0) (sym e) ∙ high v (omega arith) ∙ ap (λ x. 2 * x + (1 - x % 2)) (inv v k) ∙ sym (slot_one j v k) ∙ ap (λ x. slot_of 0 x (suc j)) f)
-          (cases_lt w (2 ^ j)),
-    )
+    rw add-one (λ w h. ⊎_elim
+    (λ (l : w < 2 ^ j). low w (omega arith) ∙ ap (λ x. 2 * x + x % 2) (inv w l) ∙ sym (slot_zero j w l))
+    (λ (l : 2 ^ j ≤ w).
+    let v = w - 2 ^ j in
+    let k : v < 2 ^ j = omega arith in
+    let e : size + v ≡ w = omega arith in
+    let f : 2 ^ j + v ≡ w = omega arith in
+    ap (λ x. get_or ys x 0) (sym e) ∙ high v (omega arith) ∙ ap (λ x. 2 * x + (1 - x % 2)) (inv v k) ∙ sym (slot_one j v k) ∙ ap (λ x. slot_of 0 x (suc j)) f)
+    (cases_lt w (2 ^ j)))
 
 across : (word j : ℕ) → accumulated 0 word j + accumulated 1 word j ≡ 1
 across word zero = refl

@@ -1,14 +1,9 @@
--- The penalties of words: what a bit more of a word costs, and what one set in it changes.
-use Rattle.std.proofs.Common.{◌≡◌, ℕ, zero, suc, ◌+◌, ◌-◌, ◌*◌, ◌^◌, ◌<◌, ◌≤◌, List, get_or, ℤ, pos, sym, refl, ap, ◌∙◌, ⊎_elim, add-one, arith}
+-- The penalties of words: what a bit set in a word changes, and what the priors of one word alone say.
+use Rattle.std.proofs.Common.{◌≡◌, ℕ, zero, suc, take, drop, length, length-take, length-drop, get_or-take, get_or-drop, ◌+◌, ◌-◌, ◌*◌, ◌^◌, ◌<◌, ◌≤◌, List, get_or, ℤ, pos, sym, refl, ap, ◌∙◌, ⊎_elim, add-one, arith}
 use native.Mathlib.Nat.{pow-succ', pow-le-pow_right}
 use Rattle.std.proofs.lemmas.Bool.{cases_lt}
 use Rattle.trellises.specs.Priors.{bit, penalty, penalties}
 use Rattle.trellises.proofs.WordBits.{bit_low, bit_high, bit_kept}
-
--- one more bit of a word
-pub penalties_more : (priors : List ℤ) (at word j sum more : ℕ) → sum ≡ penalties priors at word j → more ≡ penalty (get_or priors (at + j) (pos 0)) (bit word j)
-    → sum + more ≡ penalties priors at word (j + 1)
-penalties_more priors at word j sum more s m = rw (m, s, add-one) refl
 
 module _ (priors : List ℤ) (at j word : ℕ) (h : word < 2 ^ j) where
   -- a bit set above a word leaves the penalties under it
@@ -47,19 +42,29 @@ pub penalties_doubled : (priors : List ℤ) (at m j size nil one : ℕ) (xs ys :
     → ((w : ℕ) → w < 2 ^ j → get_or xs w 0 ≡ penalties priors at w m)
     → ((w : ℕ) → w < size → get_or ys w 0 ≡ get_or xs w 0)
     → ((w : ℕ) → w < size → get_or ys (size + w) 0 + nil ≡ get_or xs w 0 + one)
-    → (size * 2 ≡ 2 ^ (j + 1)) × ((w : ℕ) → w < 2 ^ (j + 1) → get_or ys w 0 ≡ penalties priors at w m)
-penalties_doubled priors at m j size nil one xs ys within s a b inv low high =
-    let p : 2 ^ suc j ≡ 2 * 2 ^ j = pow-succ' 2 j in
-    rw add-one (
-      omega arith,
-      λ w h. ⊎_elim
-          (λ (l : w < 2 ^ j). low w (omega arith) ∙ inv w l)
-          (λ (l : 2 ^ j ≤ w).
-          let v = w - 2 ^ j in
-          let k : v < 2 ^ j = omega arith in
-          let e : size + v ≡ w = omega arith in
-          let f : 2 ^ j + v ≡ w = omega arith in
-          let set : get_or ys (size + v) 0 ≡ penalties priors at (2 ^ j + v) m = omega (arith, high v (omega arith), inv v k, penalties_set priors at j v k m within) in
-          ap (λ x. get_or ys x 0) (sym e) ∙ set ∙ ap (λ x. penalties priors at x m) f)
-          (cases_lt w (2 ^ j)),
-    )
+    → (w : ℕ) → w < 2 ^ (j + 1) → get_or ys w 0 ≡ penalties priors at w m
+penalties_doubled priors at m j size nil one xs ys within s a b inv low high w h =
+    let p : 2 ^ (j + 1) ≡ 2 * 2 ^ j = rw add-one (pow-succ' 2 j) in
+    ⊎_elim
+    (λ (l : w < 2 ^ j). low w (omega arith) ∙ inv w l)
+    (λ (l : 2 ^ j ≤ w).
+    let v = w - 2 ^ j in
+    let k : v < 2 ^ j = omega arith in
+    let e : size + v ≡ w = omega arith in
+    let f : 2 ^ j + v ≡ w = omega arith in
+    let set : get_or ys (size + v) 0 ≡ penalties priors at (2 ^ j + v) m = omega (arith, high v (omega arith), inv v k, penalties_set priors at j v k m within) in
+    ap (λ x. get_or ys x 0) (sym e) ∙ set ∙ ap (λ x. penalties priors at x m) f)
+    (cases_lt w (2 ^ j))
+
+-- the penalties by the priors of one word alone
+part_upto : (priors : List ℤ) (at word n j : ℕ) → j ≤ n → penalties (take n (drop at priors)) 0 word j ≡ penalties priors at word j
+part_upto priors at word n zero h = refl
+part_upto priors at word n (suc j) h =
+    let rest = part_upto priors at word n j (omega arith) in
+    let here : get_or (take n (drop at priors)) (0 + j) (pos 0) ≡ get_or priors (at + j) (pos 0) = grind (arith, get_or-take, get_or-drop) in
+    ap (λ z. penalties (take n (drop at priors)) 0 word j + penalty z (bit word j)) here ∙ ap (λ p. p + penalty (get_or priors (at + j) (pos 0)) (bit word j)) rest
+
+pub penalties_part : (priors : List ℤ) (at word n : ℕ) → at + n ≤ length priors → penalties (take n (drop at priors)) 0 word (length (take n (drop at priors))) ≡ penalties priors at word n
+penalties_part priors at word n h =
+    let l : length (take n (drop at priors)) ≡ n = grind (arith, length-take, length-drop) in
+    ap (λ j. penalties (take n (drop at priors)) 0 word j) l ∙ part_upto priors at word n n (omega arith)

@@ -3,29 +3,21 @@
 ghost use Rattle.trellises.specs.Forced.{InterleavedBitsFree, CodedBitsFree, DataBitsFree, LastBitsZero};
 
 /// No interleaved bit of the inner trellis is forced.
-pub fn interleaved_bits_free() -> u8
+pub fn interleaved_bits_free()
     ensures { InterleavedBitsFree }
-{
-    0
-}
+{}
 
 /// No coded bit of the outer trellis is forced, from four data bits on.
-pub fn coded_bits_free() -> u8
+pub fn coded_bits_free()
     ensures { CodedBitsFree }
-{
-    0
-}
+{}
 
 /// No data bit of the outer trellis before the last two is forced.
-pub fn data_bits_free() -> u8
+pub fn data_bits_free()
     ensures { DataBitsFree }
-{
-    0
-}
+{}
 
 /// The last two data bits of the outer trellis are zero on every path.
-pub fn last_bits_zero() -> u8
+pub fn last_bits_zero()
     ensures { LastBitsZero }
-{
-    0
-}
+{}

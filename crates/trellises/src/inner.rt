@@ -7,7 +7,7 @@ ghost use Rattle.trellises.specs.InnerLaws.{inner_lawful, inner_reaches};
 
 use super::rows::add_row;
 use super::slots::slot_table;
-use super::words::{word_penalties, word_penalty};
+use super::words::{word_count, word_penalties, word_penalty};
 use paths::{Edge, Trellis};
 
 /// `n` symbols of `m` interleaved bits: a row of slot costs for each symbol, and a prior for each bit.
@@ -17,6 +17,7 @@ pub struct Inner<'a, 'b> {
     pub n: usize,
     pub rows: &'a [u8],
     pub priors: &'b [i16],
+    // An array, of which the first 2 ^ m entries count: there is no heap, and m is known only as it runs.
     slots: [u8; 256],
     ghost sizes: { (1 ≤ m) × (m ≤ 8) × (1 ≤ n) × (n ≤ 16384) },
     ghost there: { (n * 2 ^ m ≤ length rows.now) × (n * m ≤ length priors.now) },
@@ -46,17 +47,34 @@ impl<'a, 'b> Inner<'a, 'b> {
     fn size(&self) -> usize
         ensures { result ≡ 2 ^ self.now.m }
     {
-        1 << self.m
+        word_count(self.m)
     }
 
-    /// The from state and the word of edge `i` of a stage.
-    fn from_and_word(&self, i: usize) -> (usize, usize)
-        requires { i < 2 * 2 ^ self.now.m }
-        ensures from { result.0 ≡ i / 2 ^ self.now.m }
-        ensures word { result.1 ≡ i % 2 ^ self.now.m }
+    /// What symbol `k` costs in each slot.
+    fn row(&self, k: usize) -> &[u8]
+        requires { k < self.now.n }
+        ensures len { length result.now ≡ 2 ^ self.now.m }
+        ensures value { (i : ℕ) → i < 2 ^ self.now.m → slice_index result.now i ≡ slice_index self.now.rows.now (k * 2 ^ self.now.m + i) }
     {
         let size = self.size();
-        if i < size { (0, i) } else { (1, i - size) }
+        &self.rows[k * size..(k + 1) * size]
+    }
+
+    /// The priors of the bits of symbol `k`.
+    fn word_priors(&self, k: usize) -> &[i16]
+        requires { k < self.now.n }
+        ensures len { length result.now ≡ self.now.m }
+        ensures value { (w : ℕ) → penalties result.now 0 w (length result.now) ≡ penalties self.now.priors.now (k * self.now.m) w self.now.m }
+    {
+        &self.priors[k * self.m..(k + 1) * self.m]
+    }
+
+    /// The slot of each word out of state 0.
+    fn word_slots(&self) -> &[u8]
+        ensures len { length result.now ≡ 2 ^ self.now.m }
+        ensures value { (w : ℕ) → w < 2 ^ self.now.m → slice_index result.now w ≡ slot_of 0 w self.now.m }
+    {
+        &self.slots[..self.size()]
     }
 
     /// The slot of a word out of a state; out of state 1 it mirrors that out of state 0.
@@ -73,12 +91,12 @@ impl<'a, 'b> Inner<'a, 'b> {
     }
 
     /// What symbol `k` costs in a slot, with the penalties of its word.
+    #[tactic(auto, using(crate::specs::Bounds::penalties_low))]
     fn cost(&self, k: usize, slot: usize, word: usize) -> u32
         requires { (k < self.now.n) × (slot < 2 ^ self.now.m) }
         ensures { result ≡ min (slice_index self.now.rows.now (k * 2 ^ self.now.m + slot)) 255 + penalties self.now.priors.now (k * self.now.m) word self.now.m }
     {
-        let row = k * self.size();
-        u32::from(self.rows[row + slot]) + word_penalty(self.priors, k * self.m, self.m, word)
+        u32::from(self.row(k)[slot]) + word_penalty(self.word_priors(k), word)
     }
 }
 
@@ -138,18 +156,16 @@ impl<'a, 'b> Trellis for Inner<'a, 'b> {
     }
 
     fn edge_count(&self, k: usize) -> Option<usize> {
-        if k < self.n {
-            Some(2 * self.size())
-        } else {
-            None
-        }
+        (k < self.n).then_some(2 * self.size())
     }
 
     fn edge(&self, k: usize, i: usize) -> Option<Edge> {
-        if k >= self.n || i >= 2 * self.size() {
+        let size = self.size();
+        if k >= self.n || i >= 2 * size {
             return None;
         }
-        let (from, word) = self.from_and_word(i);
+        let from = i / size;
+        let word = i % size;
         let slot = self.slot(from, word);
         Some(Edge {
             from,
@@ -161,9 +177,8 @@ impl<'a, 'b> Trellis for Inner<'a, 'b> {
 
     fn costs(&self, k: usize, out: &mut [u32; 512]) {
         if k < self.n {
-            let size = self.size();
-            word_penalties(self.priors, k * self.m, self.m, out);
-            add_row(self.rows, k * size, &self.slots, size, out);
+            word_penalties(self.word_priors(k), out);
+            add_row(self.row(k), self.word_slots(), out);
         }
     }
 }

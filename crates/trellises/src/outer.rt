@@ -17,20 +17,13 @@ pub struct Outer<'a> {
     ghost there: { 2 * n ≤ length priors.now },
 }
 
-/// The coded bit that taps the data bit and the one two before it.
-fn first_coded(state: usize, u: usize) -> usize
+/// The two coded bits: the first taps the data bit and the one two before it, the second the one before it too.
+fn coded(state: usize, u: usize) -> (usize, usize)
     requires { (state < 4) × (u < 2) }
-    ensures { result ≡ first_coded state u }
+    ensures first { result.0 ≡ first_coded state u }
+    ensures second { result.1 ≡ second_coded state u }
 {
-    (u + state / 2) % 2
-}
-
-/// The coded bit that taps the data bit and the two before it.
-fn second_coded(state: usize, u: usize) -> usize
-    requires { (state < 4) × (u < 2) }
-    ensures { result ≡ second_coded state u }
-{
-    (u + state % 2 + state / 2) % 2
+    ((u + state / 2) % 2, (u + state % 2 + state / 2) % 2)
 }
 
 /// What a coded bit costs as zero and as one.
@@ -57,8 +50,8 @@ impl<'a> Outer<'a> {
         requires { (k < self.now.n) × ((state < 4) × (u < 2)) }
         ensures { result ≡ outer_cost self.now.priors.now k state u }
     {
-        penalty(self.priors[2 * k], first_coded(state, u))
-            + penalty(self.priors[2 * k + 1], second_coded(state, u))
+        let (first, second) = coded(state, u);
+        penalty(self.priors[2 * k], first) + penalty(self.priors[2 * k + 1], second)
     }
 }
 
@@ -118,7 +111,7 @@ impl<'a> Trellis for Outer<'a> {
     }
 
     fn edge_count(&self, k: usize) -> Option<usize> {
-        if k < self.n { Some(8) } else { None }
+        (k < self.n).then_some(8)
     }
 
     fn edge(&self, k: usize, i: usize) -> Option<Edge> {
@@ -127,7 +120,8 @@ impl<'a> Trellis for Outer<'a> {
         }
         let state = i / 2;
         let u = i % 2;
-        let word = first_coded(state, u) + 2 * second_coded(state, u) + 4 * u;
+        let (first, second) = coded(state, u);
+        let word = first + 2 * second + 4 * u;
         Some(Edge {
             from: state,
             to: u + 2 * (state % 2),
@@ -140,10 +134,9 @@ impl<'a> Trellis for Outer<'a> {
         if k < self.n {
             let first = either(self.priors[2 * k]);
             let second = either(self.priors[2 * k + 1]);
-            for i in 0..8 {
-                let state = i / 2;
-                let u = i % 2;
-                out[i] = first[first_coded(state, u)] + second[second_coded(state, u)];
+            for (i, cost) in out[..8].iter_mut().enumerate() {
+                let (a, b) = coded(i / 2, i % 2);
+                *cost = first[a] + second[b];
             }
         }
     }

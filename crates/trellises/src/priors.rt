@@ -8,18 +8,8 @@ pub fn penalty(prior: i16, bit: usize) -> u32
     ensures { result ≡ penalty prior bit }
 {
     if bit == 0 {
-        if prior <= 0 {
-            0
-        } else if prior >= 511 {
-            511
-        } else {
-            prior as u32
-        }
-    } else if prior >= 0 {
-        0
-    } else if prior <= -511 {
-        511
+        prior.clamp(0, 511) as u32
     } else {
-        (-prior) as u32
+        u32::from(prior.clamp(-511, 0).unsigned_abs())
     }
 }

@@ -1,6 +1,6 @@
 //! A trellis read from its end.
 
-ghost use Rattle.std.specs.Prelude.{◌≡◌};
+ghost use Rattle.std.specs.Prelude.{◌≡◌, ◌+◌, ◌≤◌, ◌↔◌, IsNone, IfSome};
 ghost use Rattle.paths.specs.Trellises.{reversed};
 ghost use Rattle.paths.proofs.Reverses.{reversed_lawful, reversed_reaches};
 
@@ -10,6 +10,17 @@ use paths::{Edge, Trellis};
 #[derive(Drop)]
 pub struct Reversed<'a, T> {
     pub inner: &'a T,
+}
+
+impl<'a, T: Trellis> Reversed<'a, T> {
+    /// The stage of the trellis that is read backwards which is stage `k` here.
+    fn mirrored(&self, k: usize) -> Option<usize>
+        ensures beyond { IsNone result ↔ ((T.Trellis.meaning self.now.inner.now).stages ≤ k) }
+        ensures mirrored { IfSome result (λ j. j + 1 + k ≡ (T.Trellis.meaning self.now.inner.now).stages) }
+    {
+        let n = self.inner.stages();
+        (k < n).then(|| n - 1 - k)
+    }
 }
 
 impl<'a, T: Trellis> Trellis for Reversed<'a, T> {
@@ -68,34 +79,21 @@ impl<'a, T: Trellis> Trellis for Reversed<'a, T> {
     }
 
     fn edge_count(&self, k: usize) -> Option<usize> {
-        let n = self.inner.stages();
-        if k < n {
-            self.inner.edge_count(n - 1 - k)
-        } else {
-            None
-        }
+        self.inner.edge_count(self.mirrored(k)?)
     }
 
     fn edge(&self, k: usize, i: usize) -> Option<Edge> {
-        let n = self.inner.stages();
-        if k >= n {
-            return None;
-        }
-        match self.inner.edge(n - 1 - k, i) {
-            Some(e) => Some(Edge {
-                from: e.to,
-                to: e.from,
-                word: e.word,
-                cost: e.cost,
-            }),
-            None => None,
-        }
+        let e = self.inner.edge(self.mirrored(k)?, i)?;
+        Some(Edge {
+            from: e.to,
+            to: e.from,
+            ..e
+        })
     }
 
     fn costs(&self, k: usize, out: &mut [u32; 512]) {
-        let n = self.inner.stages();
-        if k < n {
-            self.inner.costs(n - 1 - k, out);
+        if let Some(mirrored) = self.mirrored(k) {
+            self.inner.costs(mirrored, out);
         }
     }
 }

@@ -3,17 +3,22 @@
 ghost use Rattle.std.specs.Prelude.{◌≡◌, ℕ, ◌+◌, ◌-◌, ◌*◌, ◌%◌, ◌^◌, ◌<◌, ◌≤◌, slice_index};
 ghost use Rattle.trellises.specs.Inner.{slot_of};
 
+use super::words::word_count;
+
+// Like `double` of words.rt in shape alone: one function for both would need a type of entries, a closure that makes two of
+// one, and a clause with a pair for every entry, where each now has two sums.
 /// The slots of twice as many words: those with one more bit zero repeat the last accumulated bit, those with it one turn it.
 fn double(slots: &mut [u8; 256], size: usize)
-    requires { (size ≤ 128) × (((w : ℕ) → w < size → slice_index slots.old w < size)) }
+    requires room { size ≤ 128 }
+    requires within { (w : ℕ) → w < size → slice_index slots.old w < size }
     ensures low { (w : ℕ) → w < size → slice_index slots.new w ≡ 2 * slice_index slots.old w + slice_index slots.old w % 2 }
     ensures high { (w : ℕ) → w < size → slice_index slots.new (size + w) ≡ 2 * slice_index slots.old w + (1 - slice_index slots.old w % 2) }
 {
-    for w in 0..size {
-        let slot = slots[w];
-        let last = slot % 2;
-        slots[size + w] = 2 * slot + (1 - last);
-        slots[w] = 2 * slot + last;
+    let (low, high) = slots.split_at_mut(size);
+    for (w, slot) in low.iter_mut().enumerate() {
+        let last = *slot % 2;
+        high[w] = 2 * *slot + (1 - last);
+        *slot = 2 * *slot + last;
     }
 }
 
@@ -23,10 +28,8 @@ pub(crate) fn slot_table(m: usize) -> [u8; 256]
     ensures { (w : ℕ) → w < 2 ^ m → slice_index result w ≡ slot_of 0 w m }
 {
     let mut slots = [0u8; 256];
-    let mut size = 1;
-    for _ in 0..m {
-        double(&mut slots, size);
-        size *= 2;
+    for j in 0..m {
+        double(&mut slots, word_count(j));
     }
     slots
 }

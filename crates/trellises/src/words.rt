@@ -5,39 +5,49 @@ ghost use Rattle.trellises.specs.Priors.{penalties};
 
 use super::priors::penalty;
 
-/// The penalties of the `m` bits of one word, whose priors stand from `at` on.
-pub(crate) fn word_penalty(priors: &[i16], at: usize, m: usize, word: usize) -> u32
-    requires { (m ≤ 8) × (at + m ≤ length priors.now) }
-    ensures { result ≡ penalties priors.now at word m }
+/// How many words of `bits` bits there are.
+pub(crate) fn word_count(bits: usize) -> usize
+    requires { bits ≤ 8 }
+    ensures { result ≡ 2 ^ bits }
+{
+    1 << bits
+}
+
+/// The penalties of the bits of one word, which has as many as there are priors.
+#[tactic(auto, using(crate::specs::Bounds::penalty_low, crate::specs::Bounds::penalties_low))]
+pub(crate) fn word_penalty(priors: &[i16], word: usize) -> u32
+    requires { length priors.now ≤ 8 }
+    ensures { result ≡ penalties priors.now 0 word (length priors.now) }
 {
     let mut sum = 0;
-    for j in 0..m {
-        sum += penalty(priors[at + j], (word >> j) % 2);
+    for (j, &prior) in priors.iter().enumerate() {
+        sum += penalty(prior, (word >> j) % 2);
     }
     sum
 }
 
 /// Twice as many words: each once more with one bit set that was not, which costs `one` in the place of `zero`.
 fn double(out: &mut [u32; 512], size: usize, zero: u32, one: u32)
-    requires { (size ≤ 256) × ((one ≤ 511) × ((((w : ℕ) → w < size → zero ≤ slice_index out.old w + one)) × (((w : ℕ) → w < size → slice_index out.old w ≤ 4088)))) }
+    requires room { size ≤ 256 }
+    requires few { one ≤ 511 }
+    requires paid { (w : ℕ) → w < size → zero ≤ slice_index out.old w + one }
+    requires low { (w : ℕ) → w < size → slice_index out.old w ≤ 4088 }
     ensures low { (w : ℕ) → w < size → slice_index out.new w ≡ slice_index out.old w }
     ensures high { (w : ℕ) → w < size → slice_index out.new (size + w) + zero ≡ slice_index out.old w + one }
 {
-    for w in 0..size {
-        out[size + w] = out[w] + one - zero;
+    let (low, high) = out.split_at_mut(size);
+    for (w, &paid) in low.iter().enumerate() {
+        high[w] = paid + one - zero;
     }
 }
 
-/// The penalties of every word of `m` bits: first those of the word of zeros, then one sum for each other word.
-pub(crate) fn word_penalties(priors: &[i16], at: usize, m: usize, out: &mut [u32; 512])
-    requires { (m ≤ 8) × (at + m ≤ length priors.now) }
-    ensures { (w : ℕ) → w < 2 ^ m → slice_index out.new w ≡ penalties priors.now at w m }
+/// The penalties of every word: first those of the word of zeros, then one sum for each other word.
+pub(crate) fn word_penalties(priors: &[i16], out: &mut [u32; 512])
+    requires { length priors.now ≤ 8 }
+    ensures { (w : ℕ) → w < 2 ^ length priors.now → slice_index out.new w ≡ penalties priors.now 0 w (length priors.now) }
 {
-    out[0] = word_penalty(priors, at, m, 0);
-    let mut size = 1;
-    for j in 0..m {
-        let prior = priors[at + j];
-        double(out, size, penalty(prior, 0), penalty(prior, 1));
-        size *= 2;
+    out[0] = word_penalty(priors, 0);
+    for (j, &prior) in priors.iter().enumerate() {
+        double(out, word_count(j), penalty(prior, 0), penalty(prior, 1));
     }
 }

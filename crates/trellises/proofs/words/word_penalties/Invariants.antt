@@ -1,7 +1,7 @@
 -- Before bit j the words of j bits are laid, each with its zeros above.
-use Rattle.std.proofs.Common.{◌≡◌, ℕ, ◌^◌, ◌<◌, get_or}
+use Rattle.std.proofs.Common.{◌≡◌, ℕ, ◌^◌, ◌<◌, get_or, length}
 use Rattle.trellises.specs.Priors.{penalties}
 use Rattle.trellises.proofs.words.word_penalties.Given as goal
 
 abbrev pub invariant-loop-j : goal.invariant-loop-j
-invariant-loop-j l = (l.size ≡ 2 ^ l.j) × ((w : ℕ) → w < 2 ^ l.j → get_or l.out w 0 ≡ penalties l.priors l.at w l.m)
+invariant-loop-j l = (w : ℕ) → w < 2 ^ l.j → get_or l.out w 0 ≡ penalties l.priors 0 w (length l.priors)

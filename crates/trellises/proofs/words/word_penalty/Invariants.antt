@@ -4,4 +4,4 @@ use Rattle.trellises.specs.Priors.{penalties}
 use Rattle.trellises.proofs.words.word_penalty.Given as goal
 
 abbrev pub invariant-loop-j : goal.invariant-loop-j
-invariant-loop-j l = l.sum ≡ penalties l.priors l.at l.word l.j
+invariant-loop-j l = l.sum ≡ penalties l.priors 0 l.word l.j

@@ -1,36 +1,27 @@
 -- Penalties and row make the costs of the stage.
-use Rattle.std.proofs.Common.{◌≡◌, ◌*◌, ◌^◌, ap, arith}
-use Rattle.trellises.specs.Bounds.{penalties_low, few_words}
+use Rattle.std.proofs.Common.{◌≡◌, ℕ, ◌*◌, ◌^◌, ◌<◌, get_or, ◌∙◌, sym, subst, arith}
+use Rattle.trellises.specs.Priors.{penalties}
+use Rattle.trellises.specs.Bounds.{penalties_low}
 use Rattle.trellises.proofs.SlotLaws.{slot_low}
-use Rattle.trellises.proofs.InnerEdges.{row_fits, priors_fit, inner_laid}
+use Rattle.trellises.proofs.InnerEdges.{inner_laid}
 use Rattle.trellises.proofs.inner.InnerTrellis.costs.Goals as goal
+use Rattle.trellises.proofs.inner.InnerTrellis.costs.Goals.{After-word_penalties}
 
-pub word_penalties-requires : goal.word_penalties-requires
-word_penalties-requires c =
-    let t = c.args.self.now in
-    (omega arith, omega (arith, priors_fit t.m t.n c.args.k (omega arith)))
+-- what each word pays by the priors of its bits
+paid : (c : After-word_penalties) (w : ℕ) → w < 2 ^ c.args.self.now.m → get_or c.word_penalties.new.out w 0 ≡ penalties c.args.self.now.priors.now (c.args.k * c.args.self.now.m) w c.args.self.now.m
+paid c w h = c.word_penalties.ensures w (subst (λ n. w < 2 ^ n) (sym c.word_priors.ensures.len) h) ∙ c.word_priors.ensures.value w
 
-pub add_row-requires : goal.add_row-requires
-add_row-requires c =
-    let t = c.args.self.now in
-    let size = c.size-size.ensures in
-    let row : c.args.k * c.size-size.result ≡ c.args.k * 2 ^ t.m = ap (λ x. c.args.k * x) size in (
-      omega (arith, few_words t.m (omega arith)),
-      (
-        omega (arith, row_fits t.m t.n c.args.k (omega arith)),
-        (
-          λ w h. omega (arith, t.table w (omega arith), slot_low 0 w t.m (omega arith)),
-          λ w h. omega (arith, c.word_penalties.ensures w (omega arith), penalties_low t.priors.now (c.args.k * t.m) w t.m),
-        ),
-      ),
-    )
+pub add_row-requires-clause-within : goal.add_row-requires-clause-within
+add_row-requires-clause-within c w h = omega (arith, c.word_slots.ensures.value w (omega arith), slot_low 0 w c.args.self.now.m (omega arith))
 
-pub returns-then-k-self : goal.returns-then-k-self
-returns-then-k-self c =
+pub add_row-requires-clause-low : goal.add_row-requires-clause-low
+add_row-requires-clause-low c w h =
     let t = c.args.self.now in
-    record {
-      laid = inner_laid t.m t.n t.rows.now t.priors.now c.args.k (omega arith) (omega arith) c.size-size.result t.slots
-          c.word_penalties.new.out c.add_row.new.out c.size-size.ensures t.table c.word_penalties.ensures c.add_row.ensures.zero
-          c.add_row.ensures.one;
-      same = λ h. absurd (omega arith);
-    }
+    omega (arith, paid (goal.at.add_row-requires-clause-low c).After-word_penalties w (omega arith), penalties_low t.priors.now (c.args.k * t.m) w t.m)
+
+pub returns-then-k-self-clause-laid : goal.returns-then-k-self-clause-laid
+returns-then-k-self-clause-laid c =
+    let t = c.args.self.now in
+    inner_laid t.m t.n t.rows.now t.priors.now c.args.k (omega arith) (omega arith) c.row.result.now c.word_slots.result.now c.word_penalties.new.out
+    c.add_row.new.out c.word_slots.ensures.len c.row.ensures.value c.word_slots.ensures.value
+    (paid (goal.at.returns-then-k-self-clause-laid c).After-word_penalties) c.add_row.ensures.zero c.add_row.ensures.one

@@ -1,45 +1,39 @@
 -- Each edge costs what its two coded bits do.
-use Rattle.std.proofs.Common.{◌≡◌, ◌+◌, ◌*◌, ◌/◌, ◌%◌, ◌<◌, ◌≢◌, length, get_or, pos, ap, ◌∙◌, arith, get_or-set_other, get_or-set_same, w16, SFits, rules, below_more}
+use Rattle.std.proofs.Common.{◌≡◌, ℕ, ◌+◌, ◌*◌, ◌/◌, ◌%◌, ◌<◌, ◌≢◌, List, length, get_or, ℤ, pos, ap, ◌∙◌, arith, rules, get_or-set_other, get_or-set_same, w16, SFits, to_z, of_z, below_more}
 use Rattle.std.proofs.lemmas.Int.{to_z-of_z}
+use Rattle.std.proofs.lemmas.List.{get_or_append_left}
 use Rattle.trellises.specs.Priors.{penalty}
 use Rattle.trellises.specs.Bounds.{penalty_low}
 use Rattle.trellises.specs.Outer.{first_coded, second_coded, outer_cost}
 use Rattle.trellises.proofs.OuterEdges.{outer_laid}
 use Rattle.trellises.proofs.outer.OuterTrellis.costs.Goals as goal
-use Rattle.trellises.proofs.outer.OuterTrellis.costs.Goals.{After-second_coded}
+use Rattle.trellises.proofs.outer.OuterTrellis.costs.Goals.{After-coded-a}
 
-first_paid : (c : After-second_coded) → get_or c.either-first.result c.first_coded.result 0 ≡ penalty (get_or c.args.self.now.priors.now (2 * c.args.k) (pos 0)) (first_coded (c.loop-i.i / 2) (c.loop-i.i % 2))
-first_paid c =
-    let f : SFits w16 (get_or c.args.self.now.priors.now (2 * c.args.k) (pos 0)) = search rules in
-    ap (λ b. get_or c.either-first.result b 0) c.first_coded.ensures
-    ∙ (simp to_z-of_z at (c.either-first.ensures (first_coded (c.loop-i.i / 2) (c.loop-i.i % 2)) (omega arith)))
+-- what stands at a coded bit
+read : (costs : List ℕ) (prior : ℤ) → SFits w16 prior → ((b : ℕ) → b < 2 → get_or costs b 0 ≡ penalty (to_z w16 (of_z w16 prior)) b)
+    → (r b : ℕ) → r ≡ b → b < 2 → get_or costs r 0 ≡ penalty prior b
+read costs prior f all r b e h = ap (λ b. get_or costs b 0) e ∙ (simp to_z-of_z at (all b h))
 
-second_paid : (c : After-second_coded) → get_or c.either-second.result c.second_coded.result 0 ≡ penalty (get_or c.args.self.now.priors.now (2 * c.args.k + 1) (pos 0)) (second_coded (c.loop-i.i / 2) (c.loop-i.i % 2))
-second_paid c =
-    let f : SFits w16 (get_or c.args.self.now.priors.now (2 * c.args.k + 1) (pos 0)) = search rules in
-    ap (λ b. get_or c.either-second.result b 0) c.second_coded.ensures
-    ∙ (simp to_z-of_z at (c.either-second.ensures (second_coded (c.loop-i.i / 2) (c.loop-i.i % 2)) (omega arith)))
+paid : (c : After-coded-a) → get_or c.either-first.result c.coded-a.result.0 0 + get_or c.either-second.result c.coded-a.result.1 0
+    ≡ outer_cost c.args.self.now.priors.now c.args.k (c.loop-i.i / 2) (c.loop-i.i % 2)
+paid c =
+    let priors = c.args.self.now.priors.now in
+    let first = read c.either-first.result (get_or priors (2 * c.args.k) (pos 0)) (search rules) c.either-first.ensures c.coded-a.result.0 (first_coded (c.loop-i.i / 2) (c.loop-i.i % 2)) c.coded-a.ensures.first (omega arith) in
+    let second = read c.either-second.result (get_or priors (2 * c.args.k + 1) (pos 0)) (search rules) c.either-second.ensures c.coded-a.result.1 (second_coded (c.loop-i.i / 2) (c.loop-i.i % 2)) c.coded-a.ensures.second (omega arith) in
+    omega arith
 
-cost_paid : (c : After-second_coded) → get_or c.either-first.result c.first_coded.result 0 + get_or c.either-second.result c.second_coded.result 0 ≡ outer_cost c.args.self.now.priors.now c.args.k (c.loop-i.i / 2) (c.loop-i.i % 2)
-cost_paid c = omega (arith, first_paid c, second_paid c)
-
-pub overflow_add-out : goal.overflow_add-out
-overflow_add-out c =
-    let t = c.args.self.now in
-    let one = penalty_low (get_or t.priors.now (2 * c.args.k) (pos 0)) (first_coded (c.loop-i.i / 2) (c.loop-i.i % 2)) in
-    let two = penalty_low (get_or t.priors.now (2 * c.args.k + 1) (pos 0)) (second_coded (c.loop-i.i / 2) (c.loop-i.i % 2)) in
-    omega (arith, first_paid c, second_paid c)
+pub overflow_add-cost : goal.overflow_add-cost
+overflow_add-cost c =
+    let priors = c.args.self.now.priors.now in
+    omega (arith, paid c, penalty_low (get_or priors (2 * c.args.k) (pos 0)) (first_coded (c.loop-i.i / 2) (c.loop-i.i % 2)), penalty_low (get_or priors (2 * c.args.k + 1) (pos 0)) (second_coded (c.loop-i.i / 2) (c.loop-i.i % 2)))
 
 pub loop-i-preserved : goal.loop-i-preserved
 loop-i-preserved c =
-    let lt : c.loop-i.i < length c.loop-i.out = omega arith in
-    let paid = cost_paid (goal.at.loop-i-preserved c).After-second_coded in
+    let lt : c.loop-i.i < length c.loop-i.cost-items = omega arith in
+    let paid = paid (goal.at.loop-i-preserved c).After-coded-a in
     below_more _ _ (λ v h. let ne : v ≢ c.loop-i.i = omega arith in rw get_or-set_other (c.loop-i.invariant v h)) (rw get_or-set_same paid)
 
-pub returns-after-loop-i : goal.returns-after-loop-i
-returns-after-loop-i c =
+pub returns-after-loop-i-clause-laid : goal.returns-after-loop-i-clause-laid
+returns-after-loop-i-clause-laid c =
     let t = c.args.self.now in
-    record {
-      laid = outer_laid t.n t.priors.now c.args.k c.loop-i.out (omega arith) (λ v h. c.loop-i.invariant v (omega arith));
-      same = λ h. absurd (omega arith);
-    }
+    outer_laid t.n t.priors.now c.args.k _ (omega arith) (λ v h. let lt : v < length c.loop-i.cost-items = omega arith in get_or_append_left c.loop-i.cost-items _ 0 v lt ∙ c.loop-i.invariant v (omega arith))

@@ -1,12 +1,7 @@
 -- The costs of the mirrored stage.
-use Rattle.std.proofs.Common.{arith}
 use Rattle.trellises.proofs.Reversals.{turned_costs}
 use Rattle.trellises.proofs.reversed.ReversedTrellis.costs.Goals as goal
 
-pub returns-then-k-n : goal.returns-then-k-n
-returns-then-k-n g c =
-    record {
-      laid = turned_costs (g.T.Trellis.meaning c.args.self.now.inner.now) c.args.k c.stages-n.result c.stages-n.ensures (omega arith)
-          c.costs.new.out c.costs.ensures.laid;
-      same = λ h. absurd (omega (arith, c.stages-n.ensures));
-    }
+pub returns-in-Some-clause-laid : goal.returns-in-Some-clause-laid
+returns-in-Some-clause-laid g c =
+    turned_costs (g.T.Trellis.meaning c.args.self.now.inner.now) c.args.k c.in-Some.mirrored c.in-Some.ensures.mirrored c.costs.new.out c.costs.ensures.laid
