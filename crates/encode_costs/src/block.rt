@@ -48,8 +48,8 @@ fn lay_out(
     ensures laid { IfOk result (λ n. ReadsBack (clean_block values payload.now cost) (take n file.new)) }
 {
     let symbols = encode(values, payload, sent)?;
-    let costs = lay_clean(values, &sent[0..symbols], cost, rows)?;
-    write(values, &rows[0..costs], Some(payload), file)
+    let costs = lay_clean(values, &sent[..symbols], cost, rows)?;
+    write(values, &rows[..costs], Some(payload), file)
 }
 
 /// The block without noise of a payload.
