@@ -28,19 +28,18 @@ four_bytes x = rw (div_one x) refl
 -- a record laid in three steps: head, body, and the check of both
 pub packs : (part body first second third : List ℕ) (kind number sum : ℕ) → length part ≡ length body + 8
     → first ≡ head_of kind number → second ≡ body → third ≡ bytes_of 4 sum
-    → sum ≡ check_of (take (4 + length body - 0) (put_mid 4 (4 + length body - 4) (first ++ post_of 0 4 part) second))
+    → sum ≡ check_of (take (4 + length body) (put_mid 4 (4 + length body - 4) (first ++ post_of 0 4 part) second))
     → put_mid (4 + length body) (4 + length body + 4 - (4 + length body)) (put_mid 4 (4 + length body - 4) (first ++ post_of 0 4 part) second) third ≡ packed kind number body
 unfolding packed
 packs part body first second third kind number sum long efirst esecond ethird esum =
     let n : ℕ = 4 + length body in
     let was : List ℕ = head_of kind number ++ post_of 0 4 part in
     let x : List ℕ = put_mid 4 (n - 4) was body in
-    let z : n - 0 ≡ n = omega arith in
     let le : 4 ≤ length was = omega arith in
     let front : take n x ≡ head_of kind number ++ body = take-put_mid 4 (n - 4) was body n refl le in
     let lx : length x ≤ n + 4 = simp (length-append, length-drop) (omega arith) in
     let none : post_of n (n + 4 - n) x ≡ [] = drop_all _ (drop n x) (simp length-drop (omega arith)) in
-    let sealing : sum ≡ check_of (head_of kind number ++ body) = rw (efirst, esecond) at esum ∙ ap check_of (ap (λ k. take k x) z ∙ front) in
+    let sealing : sum ≡ check_of (head_of kind number ++ body) = rw (efirst, esecond) at esum ∙ ap check_of front in
     rw (efirst, esecond, ethird, none, front, sealing) refl
 
 -- k rows are laid: what is left of the rows, each of `size` bytes, and the buffer as it was and is

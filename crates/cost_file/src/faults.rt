@@ -4,6 +4,7 @@ ghost use Rattle.std.specs.Prelude.{◌≡◌};
 ghost use Rattle.cost_file.specs.Records.{layer_of, fault};
 
 use plans::Refusal;
+use std::error::Error;
 use std::fmt;
 
 /// Where a fault lies.
@@ -59,3 +60,5 @@ impl fmt::Display for Fault {
         write!(f, "{} {} {}", self.refusal, self.record, self.layer)
     }
 }
+
+impl Error for Fault {}

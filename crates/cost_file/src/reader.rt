@@ -37,7 +37,6 @@ impl<'f> CostFile<'f> {
         ensures bound { is_some result ≡ true → number ≤ symbols self.now.plan.values + 1 }
     {
         let file = self.file;
-        let slots = self.plan.slots();
         let symbols = self.plan.symbols();
         if number == 0 {
             return Some(Record::Plan {
@@ -47,9 +46,9 @@ impl<'f> CostFile<'f> {
             });
         }
         if number <= symbols {
-            let offset = row_at(slots, number - 1) + 4;
+            let offset = row_at(self.plan, number - 1) + 4;
             return Some(Record::Row {
-                bytes: &file[offset..offset + slots],
+                bytes: &file[offset..offset + self.plan.slots()],
                 offset,
             });
         }

@@ -15,7 +15,7 @@ use plans::{Plan, PlanValues, Refusal};
 pub(crate) fn judge_length(file: &[u8]) -> Result<(), Fault>
     ensures value { result_err result ≡ length_fault file.now }
 {
-    if file.len() < 16 || file.len() > 600_000 {
+    if !(16..=600_000).contains(&file.len()) {
         return Err(Fault::new(Refusal::FileLength, 0, Layer::File));
     }
     Ok(())
@@ -26,7 +26,7 @@ pub(crate) fn judge_first(file: &[u8]) -> Result<(), Fault>
     requires { 16 ≤ length file.now }
     ensures value { result_err result ≡ plan_record_fault file.now }
 {
-    judge(&file[0..16], Kind::Plan, 0)?;
+    judge(&file[..16], Kind::Plan, 0)?;
     if file[7] != 0 {
         return Err(Fault::new(Refusal::RecordHead, 0, Layer::File));
     }

@@ -17,9 +17,9 @@ fn pack(part: &mut [u8], kind: Kind, number: u16, body: &[u8])
     ensures value { part.new ≡ packed (kind_of kind) number body.now }
 {
     let end = 4 + body.len();
-    part[0..4].copy_from_slice(&kind.head(number));
+    part[..4].copy_from_slice(&kind.head(number));
     part[4..end].copy_from_slice(body);
-    let sum = check(&part[0..end]).to_be_bytes();
+    let sum = check(&part[..end]).to_be_bytes();
     part[end..end + 4].copy_from_slice(&sum);
 }
 
@@ -83,7 +83,7 @@ impl<'a> Contents<'a> {
         // `out` is cut by hand: what is written through `chunks_exact_mut` is lost to a proof, which
         // then knows the length alone.
         for (k, row) in self.rows.chunks_exact(slots).enumerate() {
-            let at = row_at(slots, k);
+            let at = row_at(self.plan, k);
             pack(&mut out[at..at + slots + 8], Kind::Row, (k + 1) as u16, row);
         }
     }

@@ -8,7 +8,7 @@
 mod block;
 mod request;
 
-use block::{Block, Trouble, clean};
+use block::{Block, clean};
 use cost_file::{CostFile, Record, open};
 use plans::PlanValues;
 use request::{Request, asked};
@@ -45,8 +45,7 @@ fn run(rt: &HostRuntime) -> anyhow::Result<()> {
             show_block(rt, &block, payload.as_slice())?;
             store(rt, &block, file)?;
         }
-        Err(Trouble::Refused(refusal)) => println!(rt; "refused {refusal}")?,
-        Err(Trouble::Memory) => println!(rt; "no memory")?,
+        Err(trouble) => println!(rt; "{trouble}")?,
     }
     Ok(())
 }

@@ -10,7 +10,7 @@ use crate::{PlanValues, Refusal, common_divisor};
 #[derive(Clone, Copy)]
 pub struct Plan {
     pub values: PlanValues,
-    ghost accepted: { is_some (plan_refusal values) ≡ false },
+    ghost accepted: { plan_refusal values ≡ None },
 }
 
 // Numbers whose payload has a length that is served.

@@ -3,6 +3,7 @@
 ghost use Rattle.std.specs.Prelude.{◌≡◌};
 ghost use Rattle.plans.specs.Refusals.{number_of};
 
+use std::error::Error;
 use std::fmt;
 
 /// Why a call was refused: the first of its questions that was answered no.
@@ -43,3 +44,5 @@ impl fmt::Display for Refusal {
         write!(f, "{}", u8::from(*self))
     }
 }
+
+impl Error for Refusal {}

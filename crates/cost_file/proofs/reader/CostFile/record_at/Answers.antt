@@ -9,13 +9,13 @@ slice_bounds-result-end c = let i = inside c.args.self.now.file.now c.args.self.
 pub slice_bounds-result-end-then-number-symbols : goal.slice_bounds-result-end-then-number-symbols
 slice_bounds-result-end-then-number-symbols c =
     let x = c.args.self.now in
-    let i = row_inside x.file.now x.plan.values c.args.number c.symbols-symbols.result c.slots-slots.result c.row_at-offset.result x.whole c.symbols-symbols.ensures.value c.slots-slots.ensures.value c.if-number-eq0.false c.if-number-symbols.true c.row_at-offset.ensures.value in
+    let i = row_inside x.file.now x.plan.values c.args.number c.symbols-symbols.result c.slots.result c.row_at-offset.result x.whole c.symbols-symbols.ensures.value c.slots.ensures.value c.if-number-eq0.false c.if-number-symbols.true c.row_at-offset.ensures.value in
     omega arith
 
 pub returns-then-number-symbols-clause-value : goal.returns-then-number-symbols-clause-value
 returns-then-number-symbols-clause-value c =
     let x = c.args.self.now in
-    row_handed x.file.now x.plan.values _ c.args.number c.symbols-symbols.result c.slots-slots.result c.row_at-offset.result x.whole c.symbols-symbols.ensures.value c.slots-slots.ensures.value c.if-number-eq0.false c.if-number-symbols.true c.row_at-offset.ensures.value refl
+    row_handed x.file.now x.plan.values _ c.args.number c.symbols-symbols.result c.slots.result c.row_at-offset.result x.whole c.symbols-symbols.ensures.value c.slots.ensures.value c.if-number-eq0.false c.if-number-symbols.true c.row_at-offset.ensures.value refl
 
 pub slice_bounds-bytes-end : goal.slice_bounds-bytes-end
 slice_bounds-bytes-end c =

@@ -4,7 +4,7 @@ use Rattle.std.specs.Slice.Iter.{chunks_exact_rest}
 use Rattle.cost_file.specs.Records.{packed}
 use Rattle.cost_file.specs.Files.{row_at}
 use Rattle.cost_file.specs.Contents.{kept_of}
-use Rattle.cost_file.proofs.Sizes.{plan_sizes, row_place}
+use Rattle.cost_file.proofs.Sizes.{plan_sizes}
 use Rattle.cost_file.proofs.Laying.{FirstRow, first_row, row_laid, all_put, fitting}
 use Rattle.cost_file.proofs.writer.Contents.put_rows.Goals as goal
 use Rattle.cost_file.proofs.writer.Contents.put_rows.Goals.{In-Some}
@@ -19,8 +19,7 @@ pub row_at-at-requires : goal.row_at-at-requires
 row_at-at-requires c =
     let d = (goal.at.row_at-at-requires c).In-Some in
     let i = (one d).inside in
-    let z = (plan_sizes c.args.self.now.plan).symbols_high in
-    (omega (arith, c.slots-slots.ensures.bound), omega (arith, c.in-Some.ensures.steps.1))
+    omega (arith, c.in-Some.ensures.steps.1)
 
 pub overflow_cast-k : goal.overflow_cast-k
 overflow_cast-k c =
@@ -33,7 +32,7 @@ pub loop-k-preserved : goal.loop-k-preserved
 loop-k-preserved c =
     let x = c.args.self.now in
     let h = c.in-Some.ensures.steps in
-    let at = row_place x.plan.values c.in-Some.k c.slots-slots.result c.row_at-at.result c.slots-slots.ensures.value c.row_at-at.ensures.value ∙ ap (row_at x.plan.values) h.1 in
+    let at = c.row_at-at.ensures.value ∙ ap (row_at x.plan.values) h.1 in
     let packs = c.pack.ensures.value ∙ ap (λ n. packed 2 (n + 1) c.in-Some.row.now) h.1 in
     rw (h.2, h.0.0)
     (row_laid x.plan.values _ _ c.row_at-at.result c.slots-slots.result _ _ _ c.loop-k.out x.rows.now c.args.out.now c.pack.new.part (fitting (kept_of x) x.fits).0 (let s = c.slots-slots.ensures.bound.0 in omega (arith, c.slots-slots.ensures.value)) c.loop-k.invariant h.0.1.0 h.0.1.1 at c.slots-slots.ensures.value (omega arith) packs)
