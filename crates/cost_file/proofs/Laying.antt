@@ -1,9 +1,9 @@
 -- What the writer leaves in its buffer, call by call.
-use Rattle.std.proofs.Common.{◌≡◌, ℕ, ◌+◌, ◌-◌, ◌*◌, ◌/◌, ◌%◌, ◌<◌, ◌≤◌, true, cond, eqb, List, [], ◌∷◌, ◌++◌, length, take, drop, is_some, Some, None, Option, sym, refl, ap, ◌∙◌, subst, add-zero, add-mul, one-mul, zero-add, arith, length-append, length-drop, Bor}
+use Rattle.std.proofs.Common.{◌≡◌, ℕ, ◌+◌, ◌-◌, ◌*◌, ◌/◌, ◌%◌, ◌<◌, ◌≤◌, true, cond, eqb, List, [], ◌∷◌, ◌++◌, length, take, drop, is_some, Some, None, Option, sym, refl, ap, ◌∙◌, subst, add-zero, add-mul, one-mul, zero-add, ⊎_elim, mul-le-mul_right, arith, length-append, length-drop, Bor}
 use borrow.Rule.Slice.PartMut.{put_mid, post_of}
 use Rattle.std.proofs.lemmas.Slice.{take-put_mid, drop-put_mid}
-use Rattle.std.proofs.lemmas.List.{drop_all, append_assoc, append-nil, take_at, drop-drop}
-use Rattle.std.proofs.lemmas.Bool.{and_parts, eqb-true}
+use Rattle.std.proofs.lemmas.List.{drop_all, append_assoc, append-nil, take_at, drop_at, drop-drop}
+use Rattle.std.proofs.lemmas.Bool.{and_parts, eqb-true, cases_lt}
 use Rattle.plans.specs.declared.values.PlanValues.{PlanValues}
 use Rattle.plans.specs.Plans.{symbols, slots}
 use Rattle.polynomial.specs.Bytes.{check_of}
@@ -28,42 +28,79 @@ four_bytes x = rw (div_one x) refl
 -- a record laid in three steps: head, body, and the check of both
 pub packs : (part body first second third : List ℕ) (kind number sum : ℕ) → length part ≡ length body + 8
     → first ≡ head_of kind number → second ≡ body → third ≡ bytes_of 4 sum
-    → sum ≡ check_of (take (4 + length body - 0) (put_mid 4 (4 + length body - 4) (first ++ post_of 0 4 part) second))
+    → sum ≡ check_of (take (4 + length body) (put_mid 4 (4 + length body - 4) (first ++ post_of 0 4 part) second))
     → put_mid (4 + length body) (4 + length body + 4 - (4 + length body)) (put_mid 4 (4 + length body - 4) (first ++ post_of 0 4 part) second) third ≡ packed kind number body
 unfolding packed
 packs part body first second third kind number sum long efirst esecond ethird esum =
     let n : ℕ = 4 + length body in
     let was : List ℕ = head_of kind number ++ post_of 0 4 part in
     let x : List ℕ = put_mid 4 (n - 4) was body in
-    let z : n - 0 ≡ n = omega arith in
     let le : 4 ≤ length was = omega arith in
     let front : take n x ≡ head_of kind number ++ body = take-put_mid 4 (n - 4) was body n refl le in
     let lx : length x ≤ n + 4 = simp (length-append, length-drop) (omega arith) in
     let none : post_of n (n + 4 - n) x ≡ [] = drop_all _ (drop n x) (simp length-drop (omega arith)) in
-    let sealing : sum ≡ check_of (head_of kind number ++ body) = rw (efirst, esecond) at esum ∙ ap check_of (ap (λ k. take k x) z ∙ front) in
+    let sealing : sum ≡ check_of (head_of kind number ++ body) = rw (efirst, esecond) at esum ∙ ap check_of front in
     rw (efirst, esecond, ethird, none, front, sealing) refl
 
--- one more row laid behind those before it
-pub record RowLaid (v : PlanValues) (k : ℕ) (rows start was is : List ℕ) : Type 0 where
-  pub front : take (row_at v (k + 1)) is ≡ start ++ rows_written v rows 0 (k + 1)
+-- k rows are laid: what is left of the rows, each of `size` bytes, and the buffer as it was and is
+pub record RowsPut (v : PlanValues) (rows : List ℕ) (k size : ℕ) (rest was is : List ℕ) : Type 0 where
+  pub width : size ≡ slots v
+  pub within : k ≤ symbols v
+  pub left : rest ≡ drop (k * slots v) rows
+  pub front : take (row_at v k) is ≡ take 16 was ++ rows_written v rows 0 k
   pub tail : drop (rows_end v) is ≡ drop (rows_end v) was
 
-pub row_laid : (v : PlanValues) (k at w n : ℕ) (out rows start y : List ℕ) → k < symbols v → at ≡ row_at v k → w ≡ slots v → n ≡ k * w → rows_end v ≤ length out → length rows ≡ symbols v * slots v
-    → y ≡ packed 2 (k + 1) (take (n + w - n) (drop n rows)) → take (row_at v k) out ≡ start ++ rows_written v rows 0 k
-    → RowLaid v k rows start out (put_mid at (at + w + 8 - at) out y)
-row_laid v k at w n out rows start y l eat ew en room lr ey front =
-    let size : n + w - n ≡ slots v = omega arith in
-    let from : n ≡ k * slots v = en ∙ ap (λ m. k * m) ew in
-    let body : y ≡ packed 2 (k + 1) (row v rows k) = ey ∙ ap (λ m. packed 2 (k + 1) (take m (drop n rows))) size ∙ ap (λ m. packed 2 (k + 1) (take (slots v) (drop m rows))) from in
-    let ly : length y ≡ slots v + 8 = ap length body ∙ length_packed 2 (k + 1) (row v rows k) ∙ ap (λ m. m + 8) (row_length v rows lr k l) in
-    let r = row_within v k l in
-    let step : row_at v (k + 1) ≡ at + length y = let a = add-mul k 1 (slots v + 8) in let b = one-mul (slots v + 8) in omega arith in
-    let t : take (row_at v (k + 1)) (put_mid at (at + w + 8 - at) out y) ≡ take at out ++ y = take-put_mid at (at + w + 8 - at) out y (row_at v (k + 1)) step (omega arith) in
-    let more : rows_written v rows 0 (k + 1) ≡ rows_written v rows 0 k ++ packed 2 (k + 1) (row v rows k) = joined_push (λ i. packed 2 (i + 1) (row v rows i)) 0 k ∙ ap (λ i. rows_written v rows 0 k ++ packed 2 (i + 1) (row v rows i)) (zero-add k) in
+-- the next row is the front of those that are left
+pub record FirstRow (v : PlanValues) (rows : List ℕ) (k : ℕ) (x more : List ℕ) : Type 0 where
+  pub inside : k < symbols v
+  pub is : x ≡ row v rows k
+  pub after : more ≡ drop ((k + 1) * slots v) rows
+
+pub first_row : (v : PlanValues) (rows : List ℕ) (k size : ℕ) (rest x more was is : List ℕ) → length rows ≡ symbols v * slots v → 0 < slots v → RowsPut v rows k size rest was is → rest ≡ x ++ more → length x ≡ size → FirstRow v rows k x more
+first_row v rows k size rest x more was is lr some h e l =
+    let w = slots v in
+    let lx : length x ≡ w = l ∙ h.width in
+    let n : length rest ≡ length rows - k * w = ap length h.left ∙ length-drop (k * w) rows in
+    let m : length rest ≡ length x + length more = ap length e ∙ length-append x more in
+    let inside : k < symbols v = ⊎_elim (λ z. z) (λ done. absurd (let p : symbols v * w ≤ k * w = mul-le-mul_right w done in omega arith)) (cases_lt k (symbols v)) in
+    let next : (k + 1) * w ≡ k * w + w = add-mul k 1 w ∙ ap (λ y. k * w + y) (one-mul w) in
     record {
-      front = t ∙ ap (λ m. take m out ++ y) eat ∙ ap (λ xs. xs ++ y) front ∙ append_assoc start (rows_written v rows 0 k) y ∙ ap (λ xs. start ++ (rows_written v rows 0 k ++ xs)) body ∙ ap (λ xs. start ++ xs) (sym more);
-      tail = drop-put_mid at (at + w + 8 - at) out y (rows_end v) (omega arith) (omega arith) (omega arith);
+      inside = inside;
+      is = sym (take_at x more w lx) ∙ ap (take w) (sym e ∙ h.left);
+      after = sym (drop_at x more w lx) ∙ ap (drop w) (sym e ∙ h.left) ∙ drop-drop w (k * w) rows ∙ ap (λ y. drop y rows) (sym next);
     }
+
+-- one more row laid behind those before it
+pub row_laid : (v : PlanValues) (k size at n : ℕ) (rest x more out rows start y : List ℕ) → length rows ≡ symbols v * slots v → 0 < slots v → RowsPut v rows k size rest start out → rest ≡ x ++ more → length x ≡ size
+    → at ≡ row_at v k → n ≡ slots v → rows_end v ≤ length out → y ≡ packed 2 (k + 1) x → RowsPut v rows (k + 1) size more start (put_mid at (at + n + 8 - at) out y)
+row_laid v k size at n rest x more out rows start y lr some h e l eat en room ey =
+    let one = first_row v rows k size rest x more start out lr some h e l in
+    let inside = one.inside in
+    let body : y ≡ packed 2 (k + 1) (row v rows k) = ey ∙ ap (packed 2 (k + 1)) one.is in
+    let ly : length y ≡ slots v + 8 = ap length body ∙ length_packed 2 (k + 1) (row v rows k) ∙ ap (λ m. m + 8) (row_length v rows lr k inside) in
+    let r = row_within v k inside in
+    let step : row_at v (k + 1) ≡ at + length y = let a = add-mul k 1 (slots v + 8) in let b = one-mul (slots v + 8) in omega arith in
+    let t : take (row_at v (k + 1)) (put_mid at (at + n + 8 - at) out y) ≡ take at out ++ y = take-put_mid at (at + n + 8 - at) out y (row_at v (k + 1)) step (omega arith) in
+    let grown : rows_written v rows 0 (k + 1) ≡ rows_written v rows 0 k ++ packed 2 (k + 1) (row v rows k) = joined_push (λ i. packed 2 (i + 1) (row v rows i)) 0 k ∙ ap (λ i. rows_written v rows 0 k ++ packed 2 (i + 1) (row v rows i)) (zero-add k) in
+    record {
+      width = h.width;
+      within = omega arith;
+      left = one.after;
+      front = t ∙ ap (λ m. take m out ++ y) eat ∙ ap (λ xs. xs ++ y) h.front ∙ append_assoc (take 16 start) (rows_written v rows 0 k) y ∙ ap (λ xs. take 16 start ++ (rows_written v rows 0 k ++ xs)) body ∙ ap (λ xs. take 16 start ++ xs) (sym grown);
+      tail = drop-put_mid at (at + n + 8 - at) out y (rows_end v) (omega arith) (omega arith) (omega arith) ∙ h.tail;
+    }
+
+-- no whole row is left: all are laid
+pub all_put : (v : PlanValues) (rows : List ℕ) (k size : ℕ) (rest was is : List ℕ) → length rows ≡ symbols v * slots v → RowsPut v rows k size rest was is → length rest < size → k ≡ symbols v
+all_put v rows k size rest was is lr h short =
+    let w = slots v in
+    let es = h.width in
+    let within = h.within in
+    let n : length rest ≡ length rows - k * w = ap length h.left ∙ length-drop (k * w) rows in
+    ⊎_elim
+    (λ more. absurd (let p : (k + 1) * w ≤ symbols v * w = mul-le-mul_right w (omega arith) in let a = add-mul k 1 w in let o = one-mul w in omega arith))
+    (λ done. omega arith)
+    (cases_lt k (symbols v))
 
 pub fitting : (c : Kept) → lengths_fit c ≡ true → (length c.rows ≡ symbols c.plan * slots c.plan) × (payload_fits c.plan.bytes c.payload ≡ true)
 fitting c h =

@@ -1,10 +1,10 @@
 -- The sizes of an accepted plan, and that its file is never too long.
-use Rattle.std.proofs.Common.{◌≡◌, ℕ, zero, suc, ◌+◌, ◌*◌, ◌^◌, ◌<◌, ◌≤◌, None, sym, ap, ◌∙◌, subst, mul_assoc, mul_comm, mul-le-mul_left, arith, pow_mono}
+use Rattle.std.proofs.Common.{◌≡◌, ℕ, zero, suc, ◌+◌, ◌*◌, ◌^◌, ◌<◌, ◌≤◌, None, sym, ap, ◌∙◌, subst, mul_assoc, mul_comm, mul-le-mul_left, mul-le-mul_right, arith, pow_mono}
 use native.Mathlib.Nat.{div-mul_cancel}
 use Rattle.plans.specs.declared.accepted.Plan.{Plan}
 use Rattle.plans.specs.declared.values.PlanValues.{PlanValues}
 use Rattle.plans.specs.Plans.{coded, symbols, slots, plan_refusal, Sized, Grouped, Permuting, Answered}
-use Rattle.plans.proofs.Answering.{answered, none_refused}
+use Rattle.plans.proofs.Answering.{answered}
 use Rattle.cost_file.specs.Files.{row_at, rows_end}
 
 pub record Sizes (v : PlanValues) : Type 0 where
@@ -62,8 +62,8 @@ sizes v h =
 
 -- what holds of every plan that was accepted
 pub plan_sizes : (p : Plan) → Sizes p.values
-plan_sizes p = sizes p.values (none_refused p.values p.accepted)
+plan_sizes p = sizes p.values p.accepted
 
--- where the code puts row k
-pub row_place : (v : PlanValues) (k w at : ℕ) → w ≡ slots v → at ≡ 16 + k * (w + 8) → at ≡ row_at v k
-row_place v k w at ew eat = eat ∙ ap (λ m. 16 + k * (m + 8)) ew
+-- a row begins no later than the rows end
+pub row_early : (v : PlanValues) (k : ℕ) → k ≤ symbols v → row_at v k ≤ rows_end v
+row_early v k l = let m : k * (slots v + 8) ≤ symbols v * (slots v + 8) = mul-le-mul_right (slots v + 8) l in omega arith

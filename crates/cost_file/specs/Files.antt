@@ -1,5 +1,5 @@
 -- A whole cost file: what is written of its contents, the faults that reading finds, and the contents that it holds.
-use Rattle.std.specs.Prelude.{ℕ, zero, suc, ◌+◌, ◌*◌, Bool, true, cond, ◌&&◌, ◌||◌, List, [], ◌∷◌, ◌++◌, length, take, drop, Some, None, Option, ◌==◌, nat_le, slice_index}
+use Rattle.std.specs.Prelude.{◌≡◌, ℕ, zero, suc, ◌+◌, ◌*◌, Bool, true, cond, ◌&&◌, ◌||◌, List, [], ◌∷◌, ◌++◌, length, take, drop, Some, None, Option, ◌==◌, nat_le, slice_index}
 use Rattle.std.specs.List.{range_with_len, flat_map}
 use Rattle.plans.specs.declared.values.PlanValues.{PlanValues}
 use Rattle.plans.specs.declared.refusals.Refusal.{Refusal}
@@ -82,6 +82,11 @@ later_fault most v f =
 -- the first fault of a file whose payload may have up to `most` bytes
 unfoldable pub file_fault : ℕ → List ℕ → Option Fault
 file_fault most f = first_of (length_fault f) (first_of (plan_record_fault f) (later_fault most (plan_in f) f))
+
+-- what stands of every opened file, whatever was read of it: it is accepted, and the plan beside it is its own
+pub record Whole (f : List ℕ) (v : PlanValues) : Type 0 where
+  pub accepted : file_fault 1021 f ≡ None
+  pub values : v ≡ plan_in f
 
 -- the bodies of n rows from row k on
 abbrev pub rows_in : PlanValues → List ℕ → ℕ → ℕ → List ℕ

@@ -1,3 +1,4 @@
 pub mod Records
 pub mod Files
 pub mod Promises
+pub mod Contents

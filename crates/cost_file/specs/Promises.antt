@@ -4,7 +4,7 @@ use Rattle.std.specs.Borrow.{Bor}
 use Rattle.std.specs.Option.{option_map}
 use Rattle.plans.specs.declared.values.PlanValues.{PlanValues}
 use Rattle.plans.specs.declared.refusals.Refusal.{Refusal}
-use Rattle.plans.specs.Plans.{symbols, slots, plan_refusal}
+use Rattle.plans.specs.Plans.{symbols, plan_refusal}
 use Rattle.cost_file.specs.declared.reader.CostFile.{CostFile}
 use Rattle.cost_file.specs.declared.records.Record.{Record}
 use Rattle.cost_file.specs.declared.records.Record.TheVariants.{Plan, Row, Payload}
@@ -49,18 +49,10 @@ pub record Accepted (most : ℕ) (f : List ℕ) : Type 0 where
   pub proper : Proper (kept_in f)
   pub canonical : written (kept_in f) ≡ f
 
--- what stands of every opened file, whatever was read of it: it is accepted, and the sizes are those of its plan
-pub record Whole (x : CostFile) : Type 0 where
-  pub accepted : file_fault 1021 x.file.now ≡ None
-  pub values : x.values ≡ plan_in x.file.now
-  pub symbols : x.symbols ≡ symbols (plan_in x.file.now)
-  pub slots : x.slots ≡ slots (plan_in x.file.now)
-
 -- a file just opened: it is the file that was handed over, and its first record comes next
 pub record Opened (most : ℕ) (f : List ℕ) (x : CostFile) : Type 0 where
   pub file : x.file.now ≡ f
   pub first : x.next ≡ 0
-  pub whole : Whole x
   pub accepted : Accepted most f
 
 -- a record as it lies in a file: its kind, where its body begins, and its body
@@ -94,13 +86,12 @@ Numbered f (Some (Payload bytes offset)) = Unit {0}
 
 -- at most this many records are still to come
 abbrev pub records_left : CostFile → ℕ
-records_left x = x.symbols + 2 - x.next
+records_left x = symbols x.plan.values + 2 - x.next
 
 -- a record, or none past the last, was handed out: the one whose turn it was, and the turn passes on where one came
 pub record Handed (was : CostFile) (r : Option Record) (is : CostFile) : Type 0 where
-  pub value : Whole was → option_map part_of r ≡ part_at was.file.now was.next
-  pub numbers : Whole was → Numbered was.file.now r
+  pub value : option_map part_of r ≡ part_at was.file.now was.next
+  pub numbers : Numbered was.file.now r
   pub file : is.file.now ≡ was.file.now
   pub next : is.next ≡ was.next + cond (is_some r) 1 0
-  pub whole : Whole was → Whole is
   pub fewer : is_some r ≡ true → records_left is < records_left was

@@ -4,6 +4,8 @@ ghost use Rattle.std.specs.Prelude.{◌≡◌};
 ghost use Rattle.cost_file.specs.Records.{layer_of, fault};
 
 use plans::Refusal;
+use std::error::Error;
+use std::fmt;
 
 /// Where a fault lies.
 #[derive(Clone, Copy, PartialEq, Eq, Debug)]
@@ -16,17 +18,24 @@ pub enum Layer {
     Contents = 3,
 }
 
-impl Layer {
-    /// The number by which a layer is reported.
-    pub fn number(self) -> u8
-        ensures value { result ≡ layer_of self }
-    {
-        self as u8
+/// The number by which a layer is reported.
+impl From<Layer> for u8 {
+    ghost from_gives = { λ layer n. n ≡ layer_of layer };
+
+    fn from(layer: Layer) -> u8 {
+        layer as u8
+    }
+}
+
+/// A layer is written as its number.
+impl fmt::Display for Layer {
+    fn fmt<W: fmt::Write>(&self, f: &mut fmt::Formatter<W>) -> fmt::Result {
+        write!(f, "{}", u8::from(*self))
     }
 }
 
 /// The first question that a file fails, with the number of the record and the layer.
-#[derive(Clone, Copy)]
+#[derive(Clone, Copy, PartialEq, Eq, Debug)]
 pub struct Fault {
     pub refusal: Refusal,
     pub record: u32,
@@ -44,3 +53,12 @@ impl Fault {
         }
     }
 }
+
+/// A fault is written as three numbers: its refusal, the record and the layer.
+impl fmt::Display for Fault {
+    fn fmt<W: fmt::Write>(&self, f: &mut fmt::Formatter<W>) -> fmt::Result {
+        write!(f, "{} {} {}", self.refusal, self.record, self.layer)
+    }
+}
+
+impl Error for Fault {}

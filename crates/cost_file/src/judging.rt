@@ -2,19 +2,12 @@
 
 ghost use Rattle.std.specs.Prelude.{◌≡◌};
 ghost use Rattle.std.specs.Result.{result_err};
-ghost use Rattle.std.specs.Str.{bytes_eq};
 ghost use Rattle.cost_file.specs.Records.{kind_of, record_fault};
 
 use crate::faults::{Fault, Layer};
 use crate::records::Kind;
 use plans::Refusal;
 use polynomial::check;
-
-fn same(a: &[u8], b: &[u8]) -> bool
-    ensures value { result ≡ bytes_eq a.now b.now }
-{
-    a == b
-}
 
 /// Judges a record whose kind and number are due: first its check, then its head.
 pub(crate) fn judge(bytes: &[u8], due: Kind, number: u16) -> Result<(), Fault>
@@ -26,11 +19,11 @@ pub(crate) fn judge(bytes: &[u8], due: Kind, number: u16) -> Result<(), Fault>
     };
     // The check is as long as the head, so head and body together are as long as `rest`.
     let end = rest.len();
-    let sum = check(&bytes[0..end]).to_be_bytes();
-    if !same(&bytes[end..], &sum) {
+    let sum = check(&bytes[..end]).to_be_bytes();
+    if bytes[end..] != sum[..] {
         return Err(Fault::new(Refusal::RecordCheck, record, Layer::File));
     }
-    if !same(&[*kind, *zero, *high, *low], &due.head(number)) {
+    if [*kind, *zero, *high, *low] != due.head(number) {
         return Err(Fault::new(Refusal::RecordHead, record, Layer::File));
     }
     Ok(())

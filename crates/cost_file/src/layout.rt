@@ -1,17 +1,18 @@
 //! Where the records of a cost file lie.
 
 ghost use Rattle.std.specs.Prelude.{◌≡◌, ◌+◌, ◌*◌, ◌^◌, ◌<◌, ◌≤◌, if◌then◌else◌};
-ghost use Rattle.cost_file.specs.Files.{rows_end};
+ghost use Rattle.plans.specs.Plans.{symbols};
+ghost use Rattle.cost_file.specs.Files.{row_at, rows_end};
 
 use plans::Plan;
 
-/// Where the record of row `k` begins, if rows have this many slots.
-pub(crate) fn row_at(slots: usize, k: usize) -> usize
-    requires { (slots ≤ 65535) × (k ≤ 65535) }
-    ensures value { result ≡ 16 + k * (slots + 8) }
-    ensures bound { result < 2 ^ 33 }
+/// Where the record of row `k` begins, or where the last row's ends.
+pub(crate) fn row_at(plan: Plan, k: usize) -> usize
+    requires { k ≤ symbols plan.values }
+    ensures value { result ≡ row_at plan.values k }
+    ensures bound { result ≤ 600000 }
 {
-    16 + k * (slots + 8)
+    16 + k * (plan.slots() + 8)
 }
 
 /// The length of a file that has no payload.
@@ -19,7 +20,7 @@ pub(crate) fn rows_end(plan: Plan) -> usize
     ensures value { result ≡ rows_end plan.values }
     ensures bound { result + plan.values.bytes + 8 ≤ 600000 }
 {
-    row_at(plan.slots(), plan.symbols())
+    row_at(plan, plan.symbols())
 }
 
 /// The length of a file with its payload, or of one without.

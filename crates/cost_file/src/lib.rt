@@ -5,12 +5,14 @@
 mod faults;
 mod judging;
 mod layout;
+mod opening;
 mod reader;
 mod records;
 mod walk;
 mod writer;
 
 pub use faults::{Fault, Layer};
-pub use reader::{CostFile, open, open_within};
+pub use opening::{open, open_within};
+pub use reader::CostFile;
 pub use records::Record;
 pub use writer::write;

@@ -1,98 +1,63 @@
-//! Reading a cost file: it is accepted as a whole, and then hands out its records one by one.
+//! Reading a cost file: an opened file hands out its records one by one.
 
-ghost use Rattle.std.specs.Prelude.{◌≡◌, ◌+◌, ◌≤◌, true, is_some, Some, None, Ok, Err};
-ghost use Rattle.std.specs.Option.{option_map};
-ghost use Rattle.cost_file.specs.Files.{plan_in, file_fault};
-ghost use Rattle.cost_file.specs.Promises.{Whole, Opened, Handed, part_at, part_of, Numbered, records_left};
-ghost use Rattle.std.specs.Iterator.{at_most};
+ghost use Rattle.cost_file.specs.Files.{Whole};
 
-use crate::faults::Fault;
-use crate::layout::row_at;
+use crate::layout::{row_at, rows_end};
 use crate::records::Record;
-use crate::walk::{
-    accept_within, judge_due, judge_first, judge_length, judge_payload, judge_rows, read_plan,
-};
-use plans::PlanValues;
+use plans::{Plan, PlanValues};
 
-/// A file that was read to its end and found whole, with the number of the record that comes next.
+/// A file that was read to its end and found whole, with its plan and the number of the record
+/// that comes next.
 #[derive(Drop)]
 pub struct CostFile<'f> {
-    file: &'f [u8],
-    values: PlanValues,
-    symbols: u16,
-    slots: u16,
-    next: usize,
-}
-
-/// Opens a file whose payload may have up to `most` bytes, or answers its first fault.
-pub fn open_within<'f>(file: &'f [u8], most: u32) -> Result<CostFile<'f>, Fault>
-    ensures cases { elim result [
-      | Ok x ↦ Opened most file.now x
-      | Err e ↦ file_fault most file.now ≡ Some e
-    ] }
-{
-    judge_length(file)?;
-    judge_first(file)?;
-    let plan = accept_within(read_plan(file), most)?;
-    judge_due(file, plan)?;
-    judge_rows(file, plan)?;
-    judge_payload(file, plan)?;
-    Ok(CostFile {
-        file,
-        values: plan.values,
-        symbols: plan.symbols() as u16,
-        slots: plan.slots() as u16,
-        next: 0,
-    })
-}
-
-/// Opens a file, or answers its first fault.
-pub fn open<'f>(file: &'f [u8]) -> Result<CostFile<'f>, Fault>
-    ensures cases { elim result [
-      | Ok x ↦ Opened 1021 file.now x
-      | Err e ↦ file_fault 1021 file.now ≡ Some e
-    ] }
-{
-    open_within(file, 1021)
+    pub(crate) file: &'f [u8],
+    pub(crate) plan: Plan,
+    pub(crate) next: usize,
+    ghost whole: { Whole file.now plan.values },
 }
 
 impl<'f> CostFile<'f> {
+    ghost use Rattle.std.specs.Prelude.{◌≡◌, ◌+◌, ◌≤◌, true, is_some};
+    ghost use Rattle.std.specs.Option.{option_map};
+    ghost use Rattle.plans.specs.Plans.{symbols};
+    ghost use Rattle.cost_file.specs.Files.{plan_in};
+    ghost use Rattle.cost_file.specs.Promises.{Handed, part_at, part_of, Numbered};
+
     /// The numbers of the plan.
     pub fn values(&self) -> PlanValues
-        ensures value { result ≡ self.now.values }
-        ensures plan { Whole self.now → result ≡ plan_in self.now.file.now }
+        ensures value { result ≡ plan_in self.now.file.now }
     {
-        self.values
+        self.plan.values
     }
 
     // The record of this number, or none past the last.
     fn record_at(&self, number: usize) -> Option<Record<'f>>
-        ensures value { Whole self.now → option_map part_of result ≡ part_at self.now.file.now number }
-        ensures plan { Whole self.now → Numbered self.now.file.now result }
-        ensures bound { is_some result ≡ true → number ≤ self.now.symbols + 1 }
+        ensures value { option_map part_of result ≡ part_at self.now.file.now number }
+        ensures plan { Numbered self.now.file.now result }
+        ensures bound { is_some result ≡ true → number ≤ symbols self.now.plan.values + 1 }
     {
         let file = self.file;
-        let symbols = self.symbols as usize;
-        let slots = self.slots as usize;
+        let symbols = self.plan.symbols();
         if number == 0 {
-            let bytes = file.get(4..12)?;
             return Some(Record::Plan {
-                values: self.values,
-                bytes,
+                values: self.plan.values,
+                bytes: &file[4..12],
                 offset: 4,
             });
         }
         if number <= symbols {
-            let offset = row_at(slots, number - 1) + 4;
-            let bytes = file.get(offset..offset + slots)?;
-            return Some(Record::Row { bytes, offset });
+            let offset = row_at(self.plan, number - 1) + 4;
+            return Some(Record::Row {
+                bytes: &file[offset..offset + self.plan.slots()],
+                offset,
+            });
         }
-        let end = row_at(slots, symbols);
+        let end = rows_end(self.plan);
         if number > symbols + 1 || file.len() <= end {
             return None;
         }
         let offset = end + 4;
-        let bytes = file.get(offset..offset + self.values.bytes as usize)?;
+        let bytes = &file[offset..offset + self.plan.bytes()];
         Some(Record::Payload { bytes, offset })
     }
 
@@ -107,6 +72,9 @@ impl<'f> CostFile<'f> {
 }
 
 impl<'f> Iterator for CostFile<'f> {
+    ghost use Rattle.std.specs.Iterator.{at_most};
+    ghost use Rattle.cost_file.specs.Promises.{Handed, records_left};
+
     type Item = Record<'f>;
 
     ghost next_gives = { λ was r is. Handed was r is };

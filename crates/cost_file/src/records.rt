@@ -6,32 +6,34 @@ ghost use Rattle.cost_file.specs.Records.{kind_of, head_of};
 use plans::PlanValues;
 
 /// The kinds of records, in the order in which they stand.
-#[derive(Clone, Copy)]
+#[derive(Clone, Copy, PartialEq, Eq, Debug)]
 pub enum Kind {
     Plan = 1,
     Row = 2,
     Payload = 3,
 }
 
-impl Kind {
-    /// The number of a kind in the head of a record.
-    pub(crate) fn number(self) -> u8
-        ensures value { result ≡ kind_of self }
-    {
-        self as u8
-    }
+/// The number of a kind in the head of a record.
+impl From<Kind> for u8 {
+    ghost from_gives = { λ kind n. n ≡ kind_of kind };
 
+    fn from(kind: Kind) -> u8 {
+        kind as u8
+    }
+}
+
+impl Kind {
     /// The head of a record of this kind.
     pub(crate) fn head(self, number: u16) -> [u8; 4]
         ensures value { result ≡ head_of (kind_of self) number }
     {
         let [high, low] = number.to_be_bytes();
-        [self.number(), 0, high, low]
+        [u8::from(self), 0, high, low]
     }
 }
 
 /// A record of a file: its body, and where in the file the body begins.
-#[derive(Clone, Copy)]
+#[derive(Clone, Copy, PartialEq, Eq, Debug)]
 pub enum Record<'f> {
     /// The plan, with the numbers that its body holds.
     Plan {

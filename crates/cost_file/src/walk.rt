@@ -7,7 +7,7 @@ ghost use Rattle.cost_file.specs.Files.{plan_in, rows_end, length_fault, plan_re
 
 use crate::faults::{Fault, Layer};
 use crate::judging::judge;
-use crate::layout::{length_due, row_at, rows_end};
+use crate::layout::{length_due, rows_end};
 use crate::records::Kind;
 use plans::{Plan, PlanValues, Refusal};
 
@@ -15,7 +15,7 @@ use plans::{Plan, PlanValues, Refusal};
 pub(crate) fn judge_length(file: &[u8]) -> Result<(), Fault>
     ensures value { result_err result ≡ length_fault file.now }
 {
-    if file.len() < 16 || file.len() > 600_000 {
+    if !(16..=600_000).contains(&file.len()) {
         return Err(Fault::new(Refusal::FileLength, 0, Layer::File));
     }
     Ok(())
@@ -26,7 +26,7 @@ pub(crate) fn judge_first(file: &[u8]) -> Result<(), Fault>
     requires { 16 ≤ length file.now }
     ensures value { result_err result ≡ plan_record_fault file.now }
 {
-    judge(&file[0..16], Kind::Plan, 0)?;
+    judge(&file[..16], Kind::Plan, 0)?;
     if file[7] != 0 {
         return Err(Fault::new(Refusal::RecordHead, 0, Layer::File));
     }
@@ -56,43 +56,54 @@ pub(crate) fn accept_within(values: PlanValues, most: u32) -> Result<Plan, Fault
     if values.bytes > most {
         return Err(Fault::new(Refusal::PayloadBytes, 0, Layer::Plan));
     }
-    match Plan::accept(values) {
-        Ok(plan) => Ok(plan),
-        Err(refusal) => Err(Fault::new(refusal, 0, Layer::Plan)),
-    }
+    Plan::accept(values).map_err(|refusal| Fault::new(refusal, 0, Layer::Plan))
 }
 
-/// Whether the file's length is one of the two that are due.
-pub(crate) fn judge_due(file: &[u8], plan: Plan) -> Result<(), Fault>
-    ensures value { result_err result ≡ due_fault plan.values file.now }
-{
-    if file.len() != length_due(plan, false) && file.len() != length_due(plan, true) {
-        return Err(Fault::new(Refusal::LengthDue, 0, Layer::Contents));
-    }
-    Ok(())
+/// A file with its plan, whose length is one of the two that are due for it.
+#[derive(Drop)]
+pub(crate) struct DueFile<'f> {
+    file: &'f [u8],
+    plan: Plan,
+    ghost long: { rows_end plan.values ≤ length file.now },
 }
 
-/// Judges the records of all rows in their order.
-pub(crate) fn judge_rows(file: &[u8], plan: Plan) -> Result<(), Fault>
-    requires { rows_end plan.values ≤ length file.now }
-    ensures value { result_err result ≡ rows_fault plan.values file.now 0 (symbols plan.values) }
-{
-    for k in 0..plan.symbols() {
-        let slots = plan.slots();
-        let at = row_at(slots, k);
-        judge(&file[at..at + slots + 8], Kind::Row, (k + 1) as u16)?;
+impl<'f> DueFile<'f> {
+    /// Asks whether the file's length is one of the two that are due.
+    pub(crate) fn new(file: &'f [u8], plan: Plan) -> Result<DueFile<'f>, Fault>
+        ensures cases { elim result [
+          | Ok x ↦ (x.file.now ≡ file.now) × (x.plan.values ≡ plan.values) × (due_fault plan.values file.now ≡ None)
+          | Err e ↦ due_fault plan.values file.now ≡ Some e
+        ] }
+    {
+        if file.len() != length_due(plan, false) && file.len() != length_due(plan, true) {
+            return Err(Fault::new(Refusal::LengthDue, 0, Layer::Contents));
+        }
+        Ok(DueFile { file, plan })
     }
-    Ok(())
-}
 
-/// Judges the payload's record, if there is one.
-pub(crate) fn judge_payload(file: &[u8], plan: Plan) -> Result<(), Fault>
-    requires { rows_end plan.values ≤ length file.now }
-    ensures value { result_err result ≡ payload_fault plan.values file.now }
-{
-    let end = rows_end(plan);
-    if file.len() == end {
-        return Ok(());
+    /// Judges the records of all rows in their order.
+    pub(crate) fn judge_rows(&self) -> Result<(), Fault>
+        ensures value { result_err result ≡ rows_fault self.now.plan.values self.now.file.now 0 (symbols self.now.plan.values) }
+    {
+        let rows = &self.file[16..rows_end(self.plan)];
+        for (k, record) in rows.chunks_exact(self.plan.slots() + 8).enumerate() {
+            judge(record, Kind::Row, (k + 1) as u16)?;
+        }
+        Ok(())
     }
-    judge(&file[end..], Kind::Payload, (plan.symbols() + 1) as u16)
+
+    /// Judges the payload's record, if there is one.
+    pub(crate) fn judge_payload(&self) -> Result<(), Fault>
+        ensures value { result_err result ≡ payload_fault self.now.plan.values self.now.file.now }
+    {
+        let end = rows_end(self.plan);
+        if self.file.len() == end {
+            return Ok(());
+        }
+        judge(
+            &self.file[end..],
+            Kind::Payload,
+            (self.plan.symbols() + 1) as u16,
+        )
+    }
 }

@@ -1,6 +1,6 @@
 //! Writing a cost file.
 
-ghost use Rattle.std.specs.Prelude.{◌≡◌, ◌+◌, ◌*◌, ◌<◌, ◌≤◌, true, ◌++◌, length, take, drop, Some, Ok, Err};
+ghost use Rattle.std.specs.Prelude.{◌≡◌, ◌+◌, ◌*◌, ◌<◌, ◌≤◌, true, false, ◌++◌, length, take, drop, Some, Ok, Err};
 ghost use Rattle.plans.specs.Plans.{symbols, slots};
 ghost use Rattle.cost_file.specs.Records.{kind_of, packed};
 ghost use Rattle.cost_file.specs.Files.{plan_body, rows_written, rows_end, written, lengths_fit, write_refusal};
@@ -17,9 +17,9 @@ fn pack(part: &mut [u8], kind: Kind, number: u16, body: &[u8])
     ensures value { part.new ≡ packed (kind_of kind) number body.now }
 {
     let end = 4 + body.len();
-    part[0..4].copy_from_slice(&kind.head(number));
+    part[..4].copy_from_slice(&kind.head(number));
     part[4..end].copy_from_slice(body);
-    let sum = check(&part[0..end]).to_be_bytes();
+    let sum = check(&part[..end]).to_be_bytes();
     part[end..end + 4].copy_from_slice(&sum);
 }
 
@@ -34,48 +34,76 @@ fn body_of(plan: Plan) -> [u8; 8]
     [n1, n0, values.bits as u8, 0, a1, a0, b1, b0]
 }
 
-// The records of all rows, behind the first 16 bytes.
-fn put_rows(plan: Plan, rows: &[u8], out: &mut [u8])
-    requires { (rows_end plan.values ≤ length out.old) × (length rows.now ≡ symbols plan.values * slots plan.values) }
-    ensures front { take (rows_end plan.values) out.new ≡ take 16 out.old ++ rows_written plan.values rows.now 0 (symbols plan.values) }
-    ensures tail { drop (rows_end plan.values) out.new ≡ drop (rows_end plan.values) out.old }
-{
-    for k in 0..plan.symbols() {
-        let slots = plan.slots();
-        let at = row_at(slots, k);
-        let row = &rows[k * slots..k * slots + slots];
-        pack(&mut out[at..at + slots + 8], Kind::Row, (k + 1) as u16, row);
-    }
+/// What a file is to keep: rows, and perhaps a payload, of the lengths that its plan asks for.
+#[derive(Drop)]
+struct Contents<'a> {
+    plan: Plan,
+    rows: &'a [u8],
+    payload: Option<&'a [u8]>,
+    ghost fits: { lengths_fit (kept plan.values rows.now payload) ≡ true },
 }
 
-// Whether the rows and the payload have their lengths.
-fn has_lengths(plan: Plan, rows: &[u8], payload: Option<&[u8]>) -> bool
-    ensures value { result ≡ lengths_fit (kept plan.values rows.now payload.entry) }
-{
-    if rows.len() != plan.symbols() * plan.slots() {
-        return false;
-    }
-    match payload {
-        Some(body) => body.len() == plan.bytes(),
-        None => true,
-    }
-}
+impl<'a> Contents<'a> {
+    ghost use Rattle.cost_file.specs.Contents.{kept_of};
 
-// The whole file into the front of `out`.
-fn lay(plan: Plan, rows: &[u8], payload: Option<&[u8]>, out: &mut [u8])
-    requires { (lengths_fit (kept plan.values rows.now payload) ≡ true) × (length (written (kept plan.values rows.now payload)) ≤ length out.old) }
-    ensures after { Laid (kept plan.values rows.now payload.entry) out.old out.new }
-{
-    pack(&mut out[0..16], Kind::Plan, 0, &body_of(plan));
-    put_rows(plan, rows, out);
-    if let Some(body) = payload {
-        let end = rows_end(plan);
-        pack(
-            &mut out[end..end + body.len() + 8],
-            Kind::Payload,
-            (plan.symbols() + 1) as u16,
-            body,
-        );
+    // Asks whether the rows and the payload have their lengths.
+    fn new(plan: Plan, rows: &'a [u8], payload: Option<&'a [u8]>) -> Result<Contents<'a>, Refusal>
+        ensures cases { elim result [
+          | Ok x ↦ kept_of x ≡ kept plan.values rows.now payload.entry
+          | Err e ↦ (e ≡ Refusal.Lengths) × (lengths_fit (kept plan.values rows.now payload.entry) ≡ false)
+        ] }
+    {
+        if rows.len() != plan.symbols() * plan.slots() {
+            return Err(Refusal::Lengths);
+        }
+        if payload.is_some_and(|body| body.len() != plan.bytes()) {
+            return Err(Refusal::Lengths);
+        }
+        Ok(Contents {
+            plan,
+            rows,
+            payload,
+        })
+    }
+
+    // How many bytes the file has.
+    fn size(&self) -> usize
+        ensures value { result ≡ length (written (kept_of self.now)) }
+    {
+        length_due(self.plan, self.payload.is_some())
+    }
+
+    // The records of all rows, behind the first 16 bytes.
+    fn put_rows(&self, out: &mut [u8])
+        requires { rows_end self.now.plan.values ≤ length out.old }
+        ensures front { take (rows_end self.now.plan.values) out.new ≡ take 16 out.old ++ rows_written self.now.plan.values self.now.rows.now 0 (symbols self.now.plan.values) }
+        ensures tail { drop (rows_end self.now.plan.values) out.new ≡ drop (rows_end self.now.plan.values) out.old }
+    {
+        let slots = self.plan.slots();
+        // `out` is cut by hand: what is written through `chunks_exact_mut` is lost to a proof, which
+        // then knows the length alone.
+        for (k, row) in self.rows.chunks_exact(slots).enumerate() {
+            let at = row_at(self.plan, k);
+            pack(&mut out[at..at + slots + 8], Kind::Row, (k + 1) as u16, row);
+        }
+    }
+
+    // The whole file into the front of `out`.
+    fn lay(&self, out: &mut [u8])
+        requires { length (written (kept_of self.now)) ≤ length out.old }
+        ensures after { Laid (kept_of self.now) out.old out.new }
+    {
+        pack(&mut out[0..16], Kind::Plan, 0, &body_of(self.plan));
+        self.put_rows(out);
+        if let Some(body) = self.payload {
+            let end = rows_end(self.plan);
+            pack(
+                &mut out[end..end + body.len() + 8],
+                Kind::Payload,
+                (self.plan.symbols() + 1) as u16,
+                body,
+            );
+        }
     }
 }
 
@@ -90,13 +118,11 @@ pub fn write(
     ensures cases { Writes (kept values rows.now payload.entry) out.old out.new result }
 {
     let plan = Plan::accept(values)?;
-    if !has_lengths(plan, rows, payload) {
-        return Err(Refusal::Lengths);
-    }
-    let size = length_due(plan, payload.is_some());
+    let contents = Contents::new(plan, rows, payload)?;
+    let size = contents.size();
     if out.len() < size {
         return Err(Refusal::Room);
     }
-    lay(plan, rows, payload, out);
+    contents.lay(out);
     Ok(size)
 }

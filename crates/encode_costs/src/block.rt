@@ -8,6 +8,7 @@ use cost_file::write;
 use encoder::{encode, lay_clean};
 use plans::{Plan, PlanValues, Refusal};
 use std::alloc::{AllocError, Global};
+use std::fmt;
 
 /// The slots that are sent, the costs of all slots, and the file.
 #[derive(Drop)]
@@ -18,10 +19,19 @@ pub struct Block {
 }
 
 /// Why there is no block.
-#[derive(Drop)]
+#[derive(Clone, Copy, Debug)]
 pub enum Trouble {
     Refused(Refusal),
     Memory,
+}
+
+impl fmt::Display for Trouble {
+    fn fmt<W: fmt::Write>(&self, f: &mut fmt::Formatter<W>) -> fmt::Result {
+        match self {
+            Trouble::Refused(refusal) => write!(f, "refused {refusal}"),
+            Trouble::Memory => write!(f, "no memory"),
+        }
+    }
 }
 
 impl From<Refusal> for Trouble {
@@ -48,8 +58,8 @@ fn lay_out(
     ensures laid { IfOk result (λ n. ReadsBack (clean_block values payload.now cost) (take n file.new)) }
 {
     let symbols = encode(values, payload, sent)?;
-    let costs = lay_clean(values, &sent[0..symbols], cost, rows)?;
-    write(values, &rows[0..costs], Some(payload), file)
+    let costs = lay_clean(values, &sent[..symbols], cost, rows)?;
+    write(values, &rows[..costs], Some(payload), file)
 }
 
 /// The block without noise of a payload.

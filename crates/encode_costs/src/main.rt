@@ -8,7 +8,7 @@
 mod block;
 mod request;
 
-use block::{Block, Trouble, clean};
+use block::{Block, clean};
 use cost_file::{CostFile, Record, open};
 use plans::PlanValues;
 use request::{Request, asked};
@@ -39,21 +39,15 @@ fn run(rt: &HostRuntime) -> anyhow::Result<()> {
         a,
         b,
     };
-    show_plan(rt, values)?;
+    println!(rt; "plan {values}")?;
     match clean(rt.alloc(), values, payload.as_slice(), cost) {
         Ok(block) => {
             show_block(rt, &block, payload.as_slice())?;
             store(rt, &block, file)?;
         }
-        Err(Trouble::Refused(refusal)) => println!(rt; "refused {}", refusal.number())?,
-        Err(Trouble::Memory) => println!(rt; "no memory")?,
+        Err(trouble) => println!(rt; "{trouble}")?,
     }
     Ok(())
-}
-
-fn show_plan(rt: &HostRuntime, values: PlanValues) -> io::Result<()> {
-    let PlanValues { bytes, bits, a, b } = values;
-    println!(rt; "plan {bytes} {bits} {a} {b}")
 }
 
 fn show_list(rt: &HostRuntime, name: &str, numbers: &[u8]) -> io::Result<()> {
@@ -70,12 +64,7 @@ fn show_block(rt: &HostRuntime, block: &Block, payload: &[u8]) -> io::Result<()>
     println!(rt; "file {} bytes", block.file.len())?;
     match open(block.file.as_slice()) {
         Ok(file) => show_records(rt, file, block, payload),
-        Err(fault) => println!(rt;
-            "fault {} {} {}",
-            fault.refusal.number(),
-            fault.record,
-            fault.layer.number()
-        ),
+        Err(fault) => println!(rt; "fault {fault}"),
     }
 }
 
@@ -90,8 +79,7 @@ fn show_records(rt: &HostRuntime, file: CostFile, block: &Block, payload: &[u8])
         records = records.saturating_add(1);
         match record {
             Record::Plan { values, offset, .. } => {
-                let PlanValues { bytes, bits, a, b } = values;
-                println!(rt; "read plan {bytes} {bits} {a} {b} at {offset}")?;
+                println!(rt; "read plan {values} at {offset}")?;
             }
             Record::Row { bytes, .. } => rows.extend_from_slice(bytes)?,
             Record::Payload { bytes, offset } => {

@@ -1,5 +1,7 @@
 //! What the caller asks for.
 
+use std::env::Args;
+use std::str::FromStr;
 use std::{env, io};
 
 /// The words after the program's name.
@@ -12,37 +14,28 @@ pub struct Request {
     pub file: Option<String>,
 }
 
-fn number(word: Option<String>) -> Option<u32> {
-    match word {
-        Some(text) => text.as_str().parse::<u32>().ok(),
-        None => None,
-    }
+// The number that a word is, or none where there is no word or it is none.
+fn parsed<T: FromStr>(word: Option<String>) -> Option<T>
+where
+    T::Err: Drop,
+{
+    word?.as_str().parse().ok()
+}
+
+// The request that these words make, or none where a number is missing or is none.
+fn read_words(mut words: Args) -> Option<Request> {
+    Some(Request {
+        bits: parsed(words.next())?,
+        a: parsed(words.next())?,
+        b: parsed(words.next())?,
+        cost: parsed(words.next())?,
+        file: words.next(),
+    })
 }
 
 /// The request, or none where a number is missing or is none.
 pub(crate) fn asked(rt: &HostRuntime) -> io::Result<Option<Request>> {
     let mut words = env::args(rt)?;
     let _name = words.next();
-    let Some(bits) = number(words.next()) else {
-        return Ok(None);
-    };
-    let Some(a) = number(words.next()) else {
-        return Ok(None);
-    };
-    let Some(b) = number(words.next()) else {
-        return Ok(None);
-    };
-    let Some(cost) = number(words.next()) else {
-        return Ok(None);
-    };
-    if cost > 255 {
-        return Ok(None);
-    }
-    Ok(Some(Request {
-        bits,
-        a,
-        b,
-        cost: cost as u8,
-        file: words.next(),
-    }))
+    Ok(read_words(words))
 }

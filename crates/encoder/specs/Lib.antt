@@ -1,3 +1,4 @@
 pub mod Encoding
 pub mod Promises
 pub mod Clean
+pub mod Blocks

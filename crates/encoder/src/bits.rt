@@ -6,6 +6,7 @@ ghost use Rattle.polynomial.specs.Bytes.{check_of};
 ghost use Rattle.encoder.specs.Encoding.{data_bits, earlier, coded_bit};
 
 // Binary digit k of a number.
+#[tactic(auto, using(std::proofs::lemmas::Nat::and_mask))]
 fn digit(x: u32, k: u32) -> bool
     requires { k < 32 }
     ensures value { result ≡ (x / 2 ^ k % 2 == 1) }
@@ -13,44 +14,59 @@ fn digit(x: u32, k: u32) -> bool
     (x >> k) & 1 == 1
 }
 
-// The data bit of stage k, zero past the last.
-fn data_bit(payload: &[u8], check: u32, k: usize) -> bool
-    requires bound { length payload.now ≤ 1021 }
-    requires checked { check ≡ check_of payload.now }
-    ensures value { result ≡ slice_index_or (data_bits payload.now) k false }
-{
-    let n = 8 * payload.len();
-    if k < n {
-        digit(u32::from(payload[k / 8]), (7 - k % 8) as u32)
-    } else if k < n + 22 {
-        digit(check, (n + 21 - k) as u32)
-    } else {
-        false
+/// A payload as long as is served, with its check.
+#[derive(Clone, Copy)]
+pub(crate) struct CheckedPayload<'a> {
+    pub(crate) bytes: &'a [u8],
+    check: u32,
+    ghost short: { length bytes.now ≤ 1021 },
+    ghost checked: { check ≡ check_of bytes.now },
+}
+
+impl<'a> CheckedPayload<'a> {
+    pub(crate) fn new(bytes: &'a [u8]) -> CheckedPayload<'a>
+        requires { length bytes.now ≤ 1021 }
+        ensures value { result.bytes.now ≡ bytes.now }
+    {
+        let check = polynomial::check(bytes);
+        CheckedPayload { bytes, check }
     }
-}
 
-// The data bit `back` stages before stage k, zero before the first.
-fn earlier_bit(payload: &[u8], check: u32, k: usize, back: usize) -> bool
-    requires bound { length payload.now ≤ 1021 }
-    requires checked { check ≡ check_of payload.now }
-    ensures value { result ≡ earlier (data_bits payload.now) k back }
-{
-    back <= k && data_bit(payload, check, k - back)
-}
+    // The data bit of stage k, zero past the last.
+    #[tactic(auto, using(crate::proofs::Stages::payload_bit, crate::proofs::Stages::check_bit, crate::proofs::Stages::closing_bit))]
+    fn data_bit(&self, k: usize) -> bool
+        ensures value { result ≡ slice_index_or (data_bits self.now.bytes.now) k false }
+    {
+        let n = 8 * self.bytes.len();
+        if k < n {
+            digit(u32::from(self.bytes[k / 8]), (7 - k % 8) as u32)
+        } else if k < n + 22 {
+            digit(self.check, (n + 21 - k) as u32)
+        } else {
+            false
+        }
+    }
 
-// Coded bit i.
-pub(crate) fn coded_bit(payload: &[u8], check: u32, i: usize) -> bool
-    requires bound { length payload.now ≤ 1021 }
-    requires checked { check ≡ check_of payload.now }
-    ensures value { result ≡ coded_bit (data_bits payload.now) i }
-{
-    let k = i / 2;
-    let now = data_bit(payload, check, k);
-    let last = earlier_bit(payload, check, k, 1);
-    let before = earlier_bit(payload, check, k, 2);
-    if i % 2 == 0 {
-        now != before
-    } else {
-        (now != last) != before
+    // The data bit `back` stages before stage k, zero before the first.
+    fn earlier_bit(&self, k: usize, back: usize) -> bool
+        ensures value { result ≡ earlier (data_bits self.now.bytes.now) k back }
+    {
+        back <= k && self.data_bit(k - back)
+    }
+
+    // Coded bit i.
+    #[tactic(auto, using(crate::proofs::Stages::differs), unfolding(crate::specs::Encoding::coded_bit))]
+    pub(crate) fn coded_bit(&self, i: usize) -> bool
+        ensures value { result ≡ coded_bit (data_bits self.now.bytes.now) i }
+    {
+        let k = i / 2;
+        let now = self.data_bit(k);
+        let last = self.earlier_bit(k, 1);
+        let before = self.earlier_bit(k, 2);
+        if i % 2 == 0 {
+            now != before
+        } else {
+            (now != last) != before
+        }
     }
 }

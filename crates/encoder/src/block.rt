@@ -6,57 +6,58 @@ ghost use Rattle.polynomial.specs.Bytes.{check_of};
 ghost use Rattle.encoder.specs.Encoding.{data_bits, interleaved_bit, held_before, slot, encoded};
 ghost use Rattle.encoder.specs.Promises.{Encodes};
 
-use crate::bits::coded_bit;
+use crate::bits::CheckedPayload;
 use plans::{Plan, PlanValues, Refusal};
 
-// The accumulator after interleaved bit j, from what it held before.
-fn accumulate(plan: Plan, payload: &[u8], check: u32, j: usize, held: bool) -> bool
-    requires bound { length payload.now ≤ 1021 }
-    requires checked { check ≡ check_of payload.now }
-    requires inside { j < coded plan.values }
-    requires before { held ≡ held_before (interleaved_bit plan.values (data_bits payload.now)) j }
-    ensures value { result ≡ held_before (interleaved_bit plan.values (data_bits payload.now)) (j + 1) }
-{
-    let Some(i) = plan.interleave(j) else {
-        unreachable()
-    };
-    coded_bit(payload, check, i) != held
+/// A plan, and what is sent under it.
+#[derive(Clone, Copy)]
+struct Block<'a> {
+    plan: Plan,
+    payload: CheckedPayload<'a>,
 }
 
-// The slot of symbol k, and what the accumulator holds after it.
-fn slot_of(plan: Plan, payload: &[u8], check: u32, k: usize, held: bool) -> (u8, bool)
-    requires bound { length payload.now ≤ 1021 }
-    requires checked { check ≡ check_of payload.now }
-    requires inside { k < symbols plan.values }
-    requires before { held ≡ held_before (interleaved_bit plan.values (data_bits payload.now)) (k * plan.values.bits) }
-    ensures value { result.0 ≡ slot plan.values (data_bits payload.now) k }
-    ensures held { result.1 ≡ held_before (interleaved_bit plan.values (data_bits payload.now)) (k * plan.values.bits + plan.values.bits) }
-{
-    let m = plan.bits();
-    let n = plan.symbols();
-    let mut acc = held;
-    let mut value: u32 = 0;
-    for i in 0..m {
-        acc = accumulate(plan, payload, check, k * m + i, acc);
-        value = 2 * value + u32::from(acc);
+impl<'a> Block<'a> {
+    ghost use Rattle.encoder.specs.Blocks.{sent_bit};
+
+    // The accumulator after interleaved bit j, from what it held before.
+    fn accumulate(&self, j: usize, held: bool) -> bool
+        requires inside { j < coded self.now.plan.values }
+        requires before { held ≡ held_before (sent_bit self.now) j }
+        ensures value { result ≡ held_before (sent_bit self.now) (j + 1) }
+    {
+        let i = self.plan.interleave(j).unwrap();
+        self.payload.coded_bit(i) != held
     }
-    (value as u8, acc)
-}
 
-// Lays the slots of a block into the front of `out`.
-fn lay(plan: Plan, payload: &[u8], check: u32, out: &mut [u8])
-    requires bound { length payload.now ≤ 1021 }
-    requires checked { check ≡ check_of payload.now }
-    requires room { symbols plan.values ≤ length out.old }
-    ensures front { take (symbols plan.values) out.new ≡ encoded plan.values payload.now }
-    ensures tail { drop (symbols plan.values) out.new ≡ drop (symbols plan.values) out.old }
-{
-    let n = plan.symbols();
-    let mut held = false;
-    for k in 0..n {
-        let (value, after) = slot_of(plan, payload, check, k, held);
-        out[k] = value;
-        held = after;
+    // The slot of symbol k, and what the accumulator holds after it.
+    fn slot_of(&self, k: usize, held: bool) -> (u8, bool)
+        requires inside { k < symbols self.now.plan.values }
+        requires before { held ≡ held_before (sent_bit self.now) (k * self.now.plan.values.bits) }
+        ensures value { result.0 ≡ slot self.now.plan.values (data_bits self.now.payload.bytes.now) k }
+        ensures held { result.1 ≡ held_before (sent_bit self.now) (k * self.now.plan.values.bits + self.now.plan.values.bits) }
+    {
+        let m = self.plan.bits();
+        let n = self.plan.symbols();
+        let mut acc = held;
+        let mut value: u32 = 0;
+        for i in 0..m {
+            acc = self.accumulate(k * m + i, acc);
+            value = 2 * value + u32::from(acc);
+        }
+        (value as u8, acc)
+    }
+
+    // Lays the slots of the block, one in each place of `out`.
+    fn lay(&self, out: &mut [u8])
+        requires room { length out.old ≡ symbols self.now.plan.values }
+        ensures slots { out.new ≡ encoded self.now.plan.values self.now.payload.bytes.now }
+    {
+        let mut held = false;
+        for (k, place) in out.iter_mut().enumerate() {
+            let (value, after) = self.slot_of(k, held);
+            *place = value;
+            held = after;
+        }
     }
 }
 
@@ -73,7 +74,7 @@ pub fn encode(values: PlanValues, payload: &[u8], out: &mut [u8]) -> Result<usiz
     if out.len() < n {
         return Err(Refusal::Room);
     }
-    let check = polynomial::check(payload);
-    lay(plan, payload, check, out);
+    let payload = CheckedPayload::new(payload);
+    Block { plan, payload }.lay(&mut out[..n]);
     Ok(n)
 }

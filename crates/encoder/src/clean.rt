@@ -19,16 +19,14 @@ fn cost_at(sent: &[u8], m: usize, cost: u8, i: usize) -> u8
     }
 }
 
-// Lays the costs of n slots, m to a symbol, into the front of `rows`.
-fn fill(sent: &[u8], m: usize, n: usize, cost: u8, rows: &mut [u8])
+// Lays the costs of all slots, m to a symbol, one in each place of `rows`.
+fn fill(sent: &[u8], m: usize, cost: u8, rows: &mut [u8])
     requires some { 0 < m }
-    requires sent { n ≡ length sent.now * m }
-    requires room { n ≤ length rows.old }
-    ensures front { take n rows.new ≡ map (clean_cost m sent.now cost) (range_with_len 0 n) }
-    ensures tail { drop n rows.new ≡ drop n rows.old }
+    requires sized { length rows.old ≡ length sent.now * m }
+    ensures costs { rows.new ≡ map (clean_cost m sent.now cost) (range_with_len 0 (length sent.now * m)) }
 {
-    for i in 0..n {
-        rows[i] = cost_at(sent, m, cost, i);
+    for (i, place) in rows.iter_mut().enumerate() {
+        *place = cost_at(sent, m, cost, i);
     }
 }
 
@@ -53,6 +51,6 @@ pub fn lay_clean(
     if rows.len() < n {
         return Err(Refusal::Room);
     }
-    fill(sent, m, n, cost, rows);
+    fill(sent, m, cost, &mut rows[..n]);
     Ok(n)
 }

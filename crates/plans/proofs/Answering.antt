@@ -1,9 +1,8 @@
 -- What the tests of a plan mean, and that an accepted plan's interleaver is a permutation.
-use Rattle.std.proofs.Common.{◌≡◌, ℕ, ◌+◌, ◌*◌, ◌%◌, ◌^◌, ◌<◌, Bool, true, false, ◌&&◌, eqb, ltb, leb, is_some, Some, None, Option, refl, subst, mod-lt, arith}
+use Rattle.std.proofs.Common.{◌≡◌, ℕ, ◌+◌, ◌*◌, ◌%◌, ◌^◌, ◌<◌, Bool, true, false, ◌&&◌, eqb, ltb, leb, None, refl, subst, mod-lt, arith}
 use native.Mathlib.Nat.{dvd_of_mod-eq-zero, mod-eq-zero_of_dvd}
 use Rattle.std.proofs.lemmas.Bool.{leb-true, le-leb, ltb-true, lt-ltb, eqb-true, eq-eqb, and_parts, and_from, both_ways}
 use Rattle.plans.specs.declared.values.PlanValues.{PlanValues}
-use Rattle.plans.specs.declared.refusals.Refusal.{Refusal}
 use Rattle.plans.specs.Divisors.{coprime}
 use Rattle.plans.specs.Permutations.{Permutation}
 use Rattle.plans.specs.Plans.{coded, interleaver, Sized, Grouped, Permuting, sized, grouped, permuting, plan_refusal, Answered}
@@ -62,16 +61,9 @@ by_tests v false g p es eg ep = rw es (λ h. both_ways (sized v) es (means_sized
 pub answered : (v : PlanValues) → Answered v (plan_refusal v)
 answered v = by_tests v (sized v) (grouped v) (permuting v) refl refl refl
 
-no_refusal : (o : Option Refusal) → is_some o ≡ false → o ≡ None
-no_refusal None h = refl
-no_refusal (Some r) h = absurd (let z : ◌≡◌ {A = ℕ} 0 1 = cc in omega arith)
-
 -- what the invariant of an accepted plan gives
-pub none_refused : (v : PlanValues) → is_some (plan_refusal v) ≡ false → plan_refusal v ≡ None
-none_refused v h = no_refusal (plan_refusal v) h
-
-pub accepted : (v : PlanValues) → is_some (plan_refusal v) ≡ false → Sized v × Grouped v × Permuting v
-accepted v h = subst (Answered v) (none_refused v h) (answered v)
+pub accepted : (v : PlanValues) → plan_refusal v ≡ None → Sized v × Grouped v × Permuting v
+accepted v h = subst (Answered v) h (answered v)
 
 pub permutation : (v : PlanValues) → Permuting v → Permutation (coded v) (interleaver v)
 permutation v h =

@@ -10,73 +10,87 @@ use crate::{PlanValues, Refusal, common_divisor};
 #[derive(Clone, Copy)]
 pub struct Plan {
     pub values: PlanValues,
-    ghost accepted: { is_some (plan_refusal values) ≡ false },
+    ghost accepted: { plan_refusal values ≡ None },
 }
 
-fn is_sized(v: PlanValues) -> bool
-    ensures value { result ≡ sized v }
-{
-    v.bytes >= 1 && v.bytes <= 1021
-}
-
-fn is_grouped(v: PlanValues) -> bool
-    requires { v.bytes ≤ 1021 }
-    ensures value { result ≡ grouped v }
-{
-    v.bits >= 2 && v.bits <= 8 && (16 * v.bytes + 48) % v.bits == 0
+// Numbers whose payload has a length that is served.
+#[derive(Clone, Copy)]
+struct SizedValues {
+    values: PlanValues,
+    ghost served: { values.bytes ≤ 1021 },
 }
 
 // The square of x modulo n.
 fn square(n: u32, x: u32) -> u32
-    requires { (0 < n) × ((n ≤ 65536) × (x < n)) }
+    requires { 0 < n }
     ensures value { result ≡ (x * x) % n }
-    ensures bound { result < n }
 {
     (u64::from(x) * u64::from(x) % u64::from(n)) as u32
 }
 
 // Whether the sixteenth power of b vanishes modulo n.
+#[tactic(auto, using(crate::proofs::Powers::sixteenth))]
 fn vanishes(n: u32, b: u32) -> bool
-    requires { (0 < n) × ((n ≤ 65536) × (b < n)) }
+    requires { 0 < n }
     ensures value { result ≡ (b ^ 16 % n == 0) }
 {
     square(n, square(n, square(n, square(n, b)))) == 0
 }
 
-fn in_range(v: PlanValues) -> bool
-    requires { v.bytes ≤ 1021 }
-    ensures value { result ≡ (nat_le 1 v.a && nat_lt v.a (coded v) && nat_lt v.b (coded v)) }
-{
-    let n = 16 * v.bytes + 48;
-    v.a >= 1 && v.a < n && v.b < n
-}
-
-fn is_permuting(v: PlanValues) -> bool
-    requires { v.bytes ≤ 1021 }
-    ensures value { result ≡ permuting v }
-{
-    if !in_range(v) {
-        return false;
+impl SizedValues {
+    // The first question of a plan.
+    #[tactic(auto, unfolding(crate::specs::Plans::plan_refusal))]
+    fn new(values: PlanValues) -> Result<SizedValues, Refusal>
+        ensures cases { elim result [ Ok it ↦ (it.values ≡ values) × (sized values ≡ true) | Err e ↦ plan_refusal values ≡ Some e ] }
+    {
+        if !(1..=1021).contains(&values.bytes) {
+            return Err(Refusal::PayloadBytes);
+        }
+        Ok(SizedValues { values })
     }
-    let n = 16 * v.bytes + 48;
-    let g = common_divisor(v.a, n);
-    let z = vanishes(n, v.b);
-    g == 1 && z
+
+    fn coded(self) -> u32
+        ensures value { result ≡ coded self.values }
+        ensures some { 0 < result }
+    {
+        16 * self.values.bytes + 48
+    }
+
+    fn is_grouped(self) -> bool
+        ensures value { result ≡ grouped self.values }
+    {
+        let m = self.values.bits;
+        (2..=8).contains(&m) && self.coded() % m == 0
+    }
+
+    fn in_range(self) -> bool
+        ensures value { result ≡ (nat_le 1 self.values.a && nat_lt self.values.a (coded self.values) && nat_lt self.values.b (coded self.values)) }
+    {
+        let n = self.coded();
+        (1..n).contains(&self.values.a) && self.values.b < n
+    }
+
+    #[tactic(auto, using(crate::proofs::Coprimes::divisor_tells))]
+    fn is_permuting(self) -> bool
+        ensures value { result ≡ permuting self.values }
+    {
+        let n = self.coded();
+        self.in_range() && common_divisor(self.values.a, n) == 1 && vanishes(n, self.values.b)
+    }
 }
 
 impl Plan {
     /// Asks the questions of a plan in their order.
+    #[tactic(auto, using(crate::proofs::Answering::answered), unfolding(crate::specs::Plans::plan_refusal))]
     pub fn accept(values: PlanValues) -> Result<Plan, Refusal>
         ensures cases { elim result [ Ok p ↦ (p.values ≡ values) × (plan_refusal values ≡ None) | Err e ↦ plan_refusal values ≡ Some e ] }
         ensures meaning { Answered values (plan_refusal values) }
     {
-        if !is_sized(values) {
-            return Err(Refusal::PayloadBytes);
-        }
-        if !is_grouped(values) {
+        let sized = SizedValues::new(values)?;
+        if !sized.is_grouped() {
             return Err(Refusal::SymbolBits);
         }
-        if !is_permuting(values) {
+        if !sized.is_permuting() {
             return Err(Refusal::Interleaver);
         }
         Ok(Plan { values })
@@ -124,6 +138,7 @@ impl Plan {
     }
 
     /// Slots of a symbol.
+    #[tactic(auto, using(std::proofs::lemmas::Nat::one_shl))]
     pub fn slots(self) -> usize
         ensures value { result ≡ slots self.values }
         ensures bound { (4 ≤ result) × (result ≤ 256) }

@@ -3,6 +3,9 @@
 ghost use Rattle.std.specs.Prelude.{◌≡◌};
 ghost use Rattle.plans.specs.Refusals.{number_of};
 
+use std::error::Error;
+use std::fmt;
+
 /// Why a call was refused: the first of its questions that was answered no.
 #[derive(Clone, Copy, PartialEq, Eq, Debug)]
 pub enum Refusal {
@@ -26,11 +29,20 @@ pub enum Refusal {
     LengthDue = 15,
 }
 
-impl Refusal {
-    /// The number by which a refusal is reported.
-    pub fn number(self) -> u8
-        ensures value { result ≡ number_of self }
-    {
-        self as u8
+/// The number by which a refusal is reported.
+impl From<Refusal> for u8 {
+    ghost from_gives = { λ refusal n. n ≡ number_of refusal };
+
+    fn from(refusal: Refusal) -> u8 {
+        refusal as u8
     }
 }
+
+/// A refusal is written as its number.
+impl fmt::Display for Refusal {
+    fn fmt<W: fmt::Write>(&self, f: &mut fmt::Formatter<W>) -> fmt::Result {
+        write!(f, "{}", u8::from(*self))
+    }
+}
+
+impl Error for Refusal {}

@@ -1,5 +1,7 @@
 //! The numbers that make a plan, before anything is asked of them.
 
+use std::fmt;
+
 /// What a sender and a receiver agree on.
 #[derive(Clone, Copy, PartialEq, Eq, Debug)]
 pub struct PlanValues {
@@ -11,4 +13,11 @@ pub struct PlanValues {
     pub a: u32,
     /// The interleaver's quadratic factor.
     pub b: u32,
+}
+
+/// The four numbers in their order.
+impl fmt::Display for PlanValues {
+    fn fmt<W: fmt::Write>(&self, f: &mut fmt::Formatter<W>) -> fmt::Result {
+        write!(f, "{} {} {} {}", self.bytes, self.bits, self.a, self.b)
+    }
 }

@@ -45,11 +45,7 @@ fn judge(rt: &HostRuntime, name: &str) -> anyhow::Result<()> {
     let file = fs::read(rt, path.as_str())?;
     match open_within(file.as_slice(), 29) {
         Ok(_) => println!(rt; "{name} accepted")?,
-        Err(fault) => {
-            let number = fault.refusal.number();
-            let layer = fault.layer.number();
-            println!(rt; "{name} fault {number} {} {layer}", fault.record)?;
-        }
+        Err(fault) => println!(rt; "{name} fault {fault}")?,
     }
     Ok(())
 }

@@ -14,28 +14,28 @@ returns-in_default c =
           ∙ sym (too_short (kind_of c.args.due) c.args.number c.args.bytes.now l);
     }
 
-pub returns-then-not-same : goal.returns-then-not-same
-returns-then-not-same c =
+pub returns-then-ne : goal.returns-then-ne
+returns-then-ne c =
     let l : 4 ≤ length c.args.bytes.now = omega (arith, ltb-false) in
     record {
-      value = ap Some c.new-then-not-same.ensures.value ∙ ap (λ n. Some (fault RecordCheck n File)) c.from-record.ensures
-          ∙ judged (kind_of c.args.due) c.args.number c.check.result c.args.bytes.now c.to_be_bytes-sum.result (head_of (kind_of c.args.due) c.args.number) false _
-          l c.check.ensures.value (c.to_be_bytes-sum.ensures ∙ sym (four_bytes c.check.result)) c.if-not-same.ensures.value refl refl;
+      value = ap Some c.new-then-ne.ensures.value ∙ ap (λ n. Some (fault RecordCheck n File)) c.from-record.ensures
+          ∙ judged (kind_of c.args.due) c.args.number c.check.result c.args.bytes.now c.to_be_bytes-sum.result (head_of (kind_of c.args.due) c.args.number) true _
+          l c.check.ensures.value (c.to_be_bytes-sum.ensures ∙ sym (four_bytes c.check.result)) (sym c.if-ne.true ∙ c.ne.ensures) refl refl;
     }
 
-pub returns-then-not-same-2 : goal.returns-then-not-same-2
-returns-then-not-same-2 c =
+pub returns-then-ne-2 : goal.returns-then-ne-2
+returns-then-ne-2 c =
     let l : 4 ≤ length c.args.bytes.now = omega (arith, ltb-false) in
     record {
-      value = ap Some c.new-then-not-same-2.ensures.value ∙ ap (λ n. Some (fault RecordHead n File)) c.from-record.ensures
-          ∙ judged (kind_of c.args.due) c.args.number c.check.result c.args.bytes.now c.to_be_bytes-sum.result c.head.result true false
-          l c.check.ensures.value (c.to_be_bytes-sum.ensures ∙ sym (four_bytes c.check.result)) c.if-not-same.ensures.value c.head.ensures.value c.if-not-same-2.ensures.value;
+      value = ap Some c.new-then-ne-2.ensures.value ∙ ap (λ n. Some (fault RecordHead n File)) c.from-record.ensures
+          ∙ judged (kind_of c.args.due) c.args.number c.check.result c.args.bytes.now c.to_be_bytes-sum.result c.head.result false true
+          l c.check.ensures.value (c.to_be_bytes-sum.ensures ∙ sym (four_bytes c.check.result)) (sym c.if-ne.false ∙ c.ne.ensures) c.head.ensures.value (sym c.if-ne-2.true ∙ c.ne-2.ensures);
     }
 
 pub returns : goal.returns
 returns c =
     let l : 4 ≤ length c.args.bytes.now = omega (arith, ltb-false) in
     record {
-      value = judged (kind_of c.args.due) c.args.number c.check.result c.args.bytes.now c.to_be_bytes-sum.result c.head.result true true
-          l c.check.ensures.value (c.to_be_bytes-sum.ensures ∙ sym (four_bytes c.check.result)) c.if-not-same.ensures.value c.head.ensures.value c.if-not-same-2.ensures.value;
+      value = judged (kind_of c.args.due) c.args.number c.check.result c.args.bytes.now c.to_be_bytes-sum.result c.head.result false false
+          l c.check.ensures.value (c.to_be_bytes-sum.ensures ∙ sym (four_bytes c.check.result)) (sym c.if-ne.false ∙ c.ne.ensures) c.head.ensures.value (sym c.if-ne-2.false ∙ c.ne-2.ensures);
     }

@@ -1,6 +1,8 @@
-use Rattle.std.proofs.Common.{◌≡◌, ℕ, ◌*◌, ◌<◌, ◌≤◌, List, map, length, take, drop, Some, None, sym, refl, ap, ◌∙◌, arith}
+use Rattle.std.proofs.Common.{◌≡◌, ℕ, ◌*◌, ◌<◌, ◌≤◌, List, ◌++◌, map, length, drop, Some, None, sym, refl, ap, ◌∙◌, arith, length-append}
 use Rattle.std.specs.List.{range_with_len}
 use Rattle.std.proofs.lemmas.Result.{err_from_is_err_and}
+use Rattle.std.proofs.lemmas.List.FromFn.{length-map-range_with_len}
+use Rattle.std.proofs.lemmas.List.{take_at, drop_at}
 use Rattle.std.proofs.lemmas.Bool.{eq-eqb, ne_eqb, le-leb, lt-leb}
 use Rattle.plans.specs.declared.values.PlanValues.{PlanValues}
 use Rattle.plans.specs.declared.refusals.Refusal.{Refusal}
@@ -44,16 +46,18 @@ returns-then-rows-n c =
     let n = size c.args.values c.in_ok-plan.plan.values c.symbols-symbols.result c.slots-m.result a.0 c.symbols-symbols.ensures.value c.slots-m.ensures.value in
     record { cases = (cramped c.args.values _ _ a.1 (c.if-sent-symbols.false ∙ c.symbols-symbols.ensures.value ∙ ap symbols a.0) (omega arith), refl) }
 
-laid : (v w : PlanValues) (sent was is : List ℕ) (cost n m : ℕ) → w ≡ v → plan_refusal v ≡ None → n ≡ symbols w → m ≡ slots w → length sent ≡ n → n * m ≤ length was → n * m ≤ length is → take (n * m) is ≡ map (clean_cost m sent cost) (range_with_len 0 (n * m)) → drop (n * m) is ≡ drop (n * m) was → Laid v sent cost (n * m) was is
+laid : (v w : PlanValues) (sent was is : List ℕ) (cost n m : ℕ) → w ≡ v → plan_refusal v ≡ None → n ≡ symbols w → m ≡ slots w → length sent ≡ n → n * m ≤ length was → is ≡ map (clean_cost m sent cost) (range_with_len 0 (length sent * m)) → Laid v sent cost (n * m) was (is ++ drop (n * m) was)
 unfolding clean_rows
-laid v w sent was is cost n m e h en em len room rest front tail =
+laid v w sent was is cost n m e h en em len room costs =
     let z = size v w n m e en em in
+    let all : length sent * m ≡ n * m = ap (λ k. k * m) len in
+    let long : length is ≡ n * m = ap length costs ∙ length-map-range_with_len (clean_cost m sent cost) 0 (length sent * m) ∙ all in
     record {
       asked = served v (length sent) (length was) h (len ∙ en ∙ ap symbols e) (omega arith);
       count = z;
-      room = rest;
-      front = front ∙ ap (λ k. map (clean_cost m sent cost) (range_with_len 0 k)) z ∙ ap (λ k. map (clean_cost k sent cost) (range_with_len 0 (symbols v * slots v))) (em ∙ ap slots e);
-      tail = tail;
+      room = simp length-append (omega arith);
+      front = take_at is (drop (n * m) was) (n * m) long ∙ costs ∙ ap (λ k. map (clean_cost m sent cost) (range_with_len 0 k)) (all ∙ z) ∙ ap (λ k. map (clean_cost k sent cost) (range_with_len 0 (symbols v * slots v))) (em ∙ ap slots e);
+      tail = drop_at is (drop (n * m) was) (n * m) long;
     }
 
 pub returns : goal.returns
@@ -61,5 +65,5 @@ returns c =
     let a = c.in_ok-plan.ensures.cases in
     record {
       cases = laid c.args.values c.in_ok-plan.plan.values c.args.sent.now c.args.rows.now c.fill.new.rows c.args.cost c.symbols-symbols.result c.slots-m.result
-          a.0 a.1 c.symbols-symbols.ensures.value c.slots-m.ensures.value c.if-sent-symbols.false c.if-rows-n.false (omega arith) c.fill.ensures.front c.fill.ensures.tail;
+          a.0 a.1 c.symbols-symbols.ensures.value c.slots-m.ensures.value c.if-sent-symbols.false c.if-rows-n.false c.fill.ensures.costs;
     }

@@ -1,13 +1,9 @@
-use Rattle.std.proofs.Common.{ℕ, ◌+◌, ◌*◌, ◌^◌, ◌<◌, ◌≤◌, refl, mul-le-mul, arith}
-use Rattle.std.proofs.lemmas.Bool.{lt-ltb, le-ltb}
-use Rattle.plans.specs.Plans.{coded}
+use Rattle.std.proofs.Common.{ℕ, ◌+◌, ◌*◌, ◌^◌, ◌<◌, ◌≤◌, mul-le-mul, arith}
 use Rattle.plans.proofs.Answering.{accepted, permutation}
 use Rattle.plans.proofs.accepted.Plan.interleave.Goals as goal
 
-pub returns-then-j-n : goal.returns-then-j-n
-returns-then-j-n c =
-    let a = accepted c.args.self.values c.args.self.accepted in
-    record { value = rw (le-ltb c.args.j (coded c.args.self.values) (omega arith)) refl; permutes = permutation c.args.self.values a.2 }
+pub returns-then-j-n-clause-permutes : goal.returns-then-j-n-clause-permutes
+returns-then-j-n-clause-permutes c = permutation c.args.self.values (accepted c.args.self.values c.args.self.accepted).2
 
 fits_both : (a b j : ℕ) → a ≤ 16384 → b ≤ 16384 → j ≤ 16384 → a * j + b * j * j < 2 ^ 64
 fits_both a b j p q r =
@@ -21,7 +17,5 @@ overflow_add-result c =
     let a = accepted c.args.self.values c.args.self.accepted in
     let f = fits_both c.args.self.values.a c.args.self.values.b c.args.j (omega arith) (omega arith) (omega arith) in omega arith
 
-pub returns : goal.returns
-returns c =
-    let a = accepted c.args.self.values c.args.self.accepted in
-    record { value = rw (lt-ltb c.args.j (coded c.args.self.values) (omega arith), c.coded-n.ensures.value) refl; permutes = permutation c.args.self.values a.2 }
+pub returns-clause-permutes : goal.returns-clause-permutes
+returns-clause-permutes c = permutation c.args.self.values (accepted c.args.self.values c.args.self.accepted).2

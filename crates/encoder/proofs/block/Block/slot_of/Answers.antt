@@ -5,7 +5,7 @@ use Rattle.plans.specs.Plans.{coded}
 use Rattle.polynomial.specs.Polynomials.{bit}
 use Rattle.encoder.specs.Encoding.{data_bits, interleaved_bit, held_before, accumulated_bit, slot}
 use Rattle.encoder.proofs.Symbols.{read, read_more, read_lt, inside}
-use Rattle.encoder.proofs.block.slot_of.Goals as goal
+use Rattle.encoder.proofs.block.Block.slot_of.Goals as goal
 
 bit_byte : (b : Bool) → bool_byte b ≡ bit b
 bit_byte true = refl
@@ -41,18 +41,16 @@ done_held v u k m i b e l h em =
 
 pub loop-i-init : goal.loop-i-init
 loop-i-init c = (
-  c.requires.before ∙ ap (λ n. held_before (interleaved_bit c.args.plan.values (data_bits c.args.payload.now)) (c.args.k * n)) (sym c.bits-m.ensures.value)
-      ∙ ap (held_before (interleaved_bit c.args.plan.values (data_bits c.args.payload.now))) (sym (add-zero (c.args.k * c.bits-m.result))),
+  c.requires.before ∙ ap (λ n. held_before (interleaved_bit c.args.self.now.plan.values (data_bits c.args.self.now.payload.bytes.now)) (c.args.k * n)) (sym c.bits-m.ensures.value)
+      ∙ ap (held_before (interleaved_bit c.args.self.now.plan.values (data_bits c.args.self.now.payload.bytes.now))) (sym (add-zero (c.args.k * c.bits-m.result))),
   refl,
 )
 
 pub accumulate-acc-requires : goal.accumulate-acc-requires
 accumulate-acc-requires c =
     record {
-      bound = c.requires.bound;
-      checked = c.requires.checked;
       inside = let h = inside c.args.k c.symbols-n.result c.bits-m.result c.loop-i.i (omega arith) c.loop-i-test.true in
-          let e : c.symbols-n.result * c.bits-m.result ≡ coded c.args.plan.values = ap (λ n. c.symbols-n.result * n) c.bits-m.ensures.value ∙ c.symbols-n.ensures.whole in omega arith;
+          let e : c.symbols-n.result * c.bits-m.result ≡ coded c.args.self.now.plan.values = ap (λ n. c.symbols-n.result * n) c.bits-m.ensures.value ∙ c.symbols-n.ensures.whole in omega arith;
       before = c.loop-i.invariant.0;
     }
 
@@ -68,8 +66,8 @@ overflow_add-value c =
 
 pub loop-i-preserved : goal.loop-i-preserved
 loop-i-preserved c = (
-  c.accumulate-acc.ensures.value ∙ ap (held_before (interleaved_bit c.args.plan.values (data_bits c.args.payload.now))) (add_assoc (c.args.k * c.bits-m.result) c.loop-i.i 1),
-  more c.args.plan.values (data_bits c.args.payload.now) (c.args.k * c.bits-m.result) c.loop-i.i c.loop-i.value c.from.result c.accumulate-acc.result c.loop-i.invariant.1 c.accumulate-acc.ensures.value c.from.ensures,
+  c.accumulate-acc.ensures.value ∙ ap (held_before (interleaved_bit c.args.self.now.plan.values (data_bits c.args.self.now.payload.bytes.now))) (add_assoc (c.args.k * c.bits-m.result) c.loop-i.i 1),
+  more c.args.self.now.plan.values (data_bits c.args.self.now.payload.bytes.now) (c.args.k * c.bits-m.result) c.loop-i.i c.loop-i.value c.from.result c.accumulate-acc.result c.loop-i.invariant.1 c.accumulate-acc.ensures.value c.from.ensures,
 )
 
 pub overflow_cast-result : goal.overflow_cast-result
@@ -79,6 +77,6 @@ overflow_cast-result c =
 pub returns : goal.returns
 returns c =
     record {
-      value = done c.args.plan.values (data_bits c.args.payload.now) c.args.k c.bits-m.result c.loop-i.i c.loop-i.value c.loop-i.invariant.1 c.loop-i-test.false c.loop-i.auto.i-end c.bits-m.ensures.value;
-      held = done_held c.args.plan.values (data_bits c.args.payload.now) c.args.k c.bits-m.result c.loop-i.i c.loop-i.acc c.loop-i.invariant.0 c.loop-i-test.false c.loop-i.auto.i-end c.bits-m.ensures.value;
+      value = done c.args.self.now.plan.values (data_bits c.args.self.now.payload.bytes.now) c.args.k c.bits-m.result c.loop-i.i c.loop-i.value c.loop-i.invariant.1 c.loop-i-test.false c.loop-i.auto.i-end c.bits-m.ensures.value;
+      held = done_held c.args.self.now.plan.values (data_bits c.args.self.now.payload.bytes.now) c.args.k c.bits-m.result c.loop-i.i c.loop-i.acc c.loop-i.invariant.0 c.loop-i-test.false c.loop-i.auto.i-end c.bits-m.ensures.value;
     }
