@@ -21,7 +21,7 @@ pub extern "C" fn lochsaucer_inner(
 ) -> bool
     ensures refused { result ≡ false → (out.new ≡ out.old) × (table.new ≡ table.old) }
 {
-    let Some(way) = Way::numbered(way) else {
+    let Ok(way) = Way::try_from(way) else {
         return false;
     };
     if m < 1 || m > 8 || n < 1 || n > 16384 {
@@ -53,7 +53,7 @@ pub extern "C" fn lochsaucer_outer(
     ensures refused { result ≡ false → (out.new ≡ out.old) × (table.new ≡ table.old) }
     ensures kept { result ≡ false → (found.new ≡ found.old) × (decided.new ≡ decided.old) }
 {
-    let Some(way) = Way::numbered(way) else {
+    let Ok(way) = Way::try_from(way) else {
         return false;
     };
     if n < 4 || n > 16384 {
