@@ -24,7 +24,7 @@ pub extern "C" fn lochsaucer_inner(
     let Ok(way) = Way::try_from(way) else {
         return false;
     };
-    if m < 1 || m > 8 || n < 1 || n > 16384 {
+    if !(1..=8).contains(&m) || !(1..=16384).contains(&n) {
         return false;
     }
     if rows.len() < n * (1 << m)
@@ -56,7 +56,7 @@ pub extern "C" fn lochsaucer_outer(
     let Ok(way) = Way::try_from(way) else {
         return false;
     };
-    if n < 4 || n > 16384 {
+    if !(4..=16384).contains(&n) {
         return false;
     }
     if priors.len() < 2 * n
