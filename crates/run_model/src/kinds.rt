@@ -29,12 +29,7 @@ impl From<Kind> for u8 {
     ghost from_gives = { λ kind n. n ≡ kind_number kind };
 
     fn from(kind: Kind) -> u8 {
-        match kind {
-            Kind::Extrinsic => 1,
-            Kind::Prior => 2,
-            Kind::Reliability => 3,
-            Kind::Ties => 4,
-        }
+        kind as u8
     }
 }
 

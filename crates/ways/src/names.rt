@@ -27,11 +27,7 @@ impl From<Way> for u8 {
     ghost from_gives = { λ way n. n ≡ way_number way };
 
     fn from(way: Way) -> u8 {
-        match way {
-            Way::Columns => 1,
-            Way::Metastages => 2,
-            Way::Modular => 3,
-        }
+        way as u8
     }
 }
 
