@@ -1,4 +1,5 @@
 //! One inner and one outer pass, for a benchmark in C to call.
+// C names a way by its number, and lends each buffer by itself: no `Way` and no struct among the parameters.
 
 #![tactic(auto)]
 
