@@ -16,14 +16,13 @@ pub fn clear<T: Copy>(table: &mut [T], n: usize, z: T)
     }
 }
 
-/// Lays the `m` bytes of row `k`; every other row is as it was.
-pub fn lay_row(rows: &mut [u8], k: usize, m: usize, bytes: &[u8])
-    requires room { k * m + m ≤ length rows.old }
-    requires length { length bytes.now ≡ m }
-    ensures after { rows.new ≡ row_laid k m bytes.now rows.old }
+/// Lays the bytes of row `k`, of rows that are all as long; every other row is as it was.
+pub fn lay_row(rows: &mut [u8], k: usize, bytes: &[u8])
+    requires room { k * length bytes.now + length bytes.now ≤ length rows.old }
+    ensures after { rows.new ≡ row_laid k (length bytes.now) bytes.now rows.old }
 {
-    let at = k * m;
-    rows[at..at + m].copy_from_slice(bytes);
+    let at = k * bytes.len();
+    rows[at..at + bytes.len()].copy_from_slice(bytes);
 }
 
 /// Whether none of the first `n` marks is 0.
