@@ -1,4 +1,5 @@
 //! One inner and one outer pass, for a benchmark in C to call.
+// C names a way by its number, and lends each buffer by itself: no `Way` and no struct among the parameters.
 
 #![tactic(auto)]
 
@@ -21,10 +22,10 @@ pub extern "C" fn lochsaucer_inner(
 ) -> bool
     ensures refused { result ≡ false → (out.new ≡ out.old) × (table.new ≡ table.old) }
 {
-    let Some(way) = Way::numbered(way) else {
+    let Ok(way) = Way::try_from(way) else {
         return false;
     };
-    if m < 1 || m > 8 || n < 1 || n > 16384 {
+    if !(1..=8).contains(&m) || !(1..=16384).contains(&n) {
         return false;
     }
     if rows.len() < n * (1 << m)
@@ -53,10 +54,10 @@ pub extern "C" fn lochsaucer_outer(
     ensures refused { result ≡ false → (out.new ≡ out.old) × (table.new ≡ table.old) }
     ensures kept { result ≡ false → (found.new ≡ found.old) × (decided.new ≡ decided.old) }
 {
-    let Some(way) = Way::numbered(way) else {
+    let Ok(way) = Way::try_from(way) else {
         return false;
     };
-    if n < 4 || n > 16384 {
+    if !(4..=16384).contains(&n) {
         return false;
     }
     if priors.len() < 2 * n

@@ -26,9 +26,7 @@ pub record Model : Type 0 where
 
 -- all tables but rows and marks are 0
 abbrev pub wiped : PlanValues → Tables → Tables
-wiped v t = record {
-  rows = t.rows;
-  marks = t.marks;
+wiped v t = record t {
   e = cleared (coded v) (pos 0) t.e;
   a = cleared (coded v) (pos 0) t.a;
   x = cleared (coded v) (pos 0) t.x;
@@ -40,7 +38,7 @@ wiped v t = record {
 
 -- rows and marks replaced
 abbrev pub with_rows : List ℕ → List ℕ → Tables → Tables
-with_rows rows marks t = record { rows = rows; marks = marks; e = t.e; a = t.a; x = t.x; g = t.g; u = t.u; d = t.d; work = t.work }
+with_rows rows marks t = record t { rows = rows; marks = marks }
 
 -- a new run: all tables are 0, and nothing stands
 abbrev pub opened : PlanValues → Tables → Model
@@ -48,11 +46,9 @@ opened v t = record { plan = v; tables = wiped v (with_rows (cleared (row_bytes 
 
 -- row k came: its bytes are laid and its mark is set; all other tables are 0, nothing stands, and no pass was made
 unfoldable pub row_came : ℕ → List ℕ → Model → Model
-row_came k bytes m = record {
-  plan = m.plan;
+row_came k bytes m = record m {
   tables = wiped m.plan (with_rows (row_laid k (slots m.plan) bytes m.tables.rows) (slice_set m.tables.marks k 1) m.tables);
   passes = 0;
-  ties = m.ties;
   standing = Nothing;
 }
 
@@ -68,21 +64,11 @@ inner_of m = inner m.plan.bits (symbols m.plan) (plan_rows m) (inner_priors m)
 
 -- an inner pass: what is sent on about each interleaved bit, over all paths of the inner trellis
 unfoldable pub inner_passed : Way → Model → Model
-inner_passed way m = record {
-  plan = m.plan;
-  tables = record {
-    rows = m.tables.rows;
-    marks = m.tables.marks;
+inner_passed way m = record m {
+  tables = record m.tables {
     e = fronted (coded m.plan) (inner_extrinsics m.plan.bits (symbols m.plan) (plan_rows m) (inner_priors m)) m.tables.e;
-    a = m.tables.a;
-    x = m.tables.x;
-    g = m.tables.g;
-    u = m.tables.u;
-    d = m.tables.d;
     work = fronted (work_size m.plan) (work_table way 2 (inner_of m) (work_size m.plan)) m.tables.work;
   };
-  passes = m.passes;
-  ties = m.ties;
   standing = Extrinsics;
 }
 
@@ -103,12 +89,8 @@ outer_ties m = (path_join least_with_ties (paths 4 (outer_of m))).count
 -- an outer pass: what is sent on about each coded bit goes back to the interleaved bits; each data bit has its reliability and
 -- its decision; all over all paths of the outer trellis
 unfoldable pub outer_passed : Way → Model → Model
-outer_passed way m = record {
-  plan = m.plan;
-  tables = record {
-    rows = m.tables.rows;
-    marks = m.tables.marks;
-    e = m.tables.e;
+outer_passed way m = record m {
+  tables = record m.tables {
     a = fronted (coded m.plan) (gathered_by (interleaver m.plan) (coded m.plan) (outer_extrinsics (stages m.plan) (outer_priors m))) m.tables.a;
     x = told_outer m;
     g = fronted (coded m.plan) (outer_extrinsics (stages m.plan) (outer_priors m)) m.tables.g;

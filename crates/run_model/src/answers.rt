@@ -3,7 +3,7 @@
 use plans::Refusal;
 
 /// A number that was asked for.
-#[derive(Clone, Copy)]
+#[derive(Clone, Copy, PartialEq, Eq, Debug)]
 pub enum Reading {
     Extrinsic(i16),
     Prior(i16),
@@ -13,12 +13,12 @@ pub enum Reading {
 }
 
 /// The answer of a call.
-#[derive(Clone, Copy)]
+#[derive(Clone, Copy, PartialEq, Eq, Debug)]
 pub enum Answer {
     /// A row, an inner or an outer pass was accepted.
     Done,
     /// The passes made, and the remainder of the decided bits.
-    Checked((u32, u32)),
+    Checked { passes: u32, remainder: u32 },
     Read(Reading),
     /// The payload was taken: so many bytes.
     Taken(usize),

@@ -1,7 +1,8 @@
 //! The calls of a run.
 
-/// A call with its arguments. A way and a kind are named by their numbers, so that a wrong one is refused by the run.
-#[derive(Clone, Copy)]
+/// A call with its arguments.
+// A way and a kind are numbers here, and not a `Way` and a `Kind`: a run refuses a wrong number, in the order of its questions.
+#[derive(Clone, Copy, PartialEq, Eq, Debug)]
 pub enum Call<'f> {
     /// The slot costs of a symbol have come.
     Row { index: usize, bytes: &'f [u8] },

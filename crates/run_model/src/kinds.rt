@@ -1,10 +1,14 @@
 //! What can be read of a run.
 
 ghost use Rattle.std.specs.Prelude.{◌≡◌};
+ghost use Rattle.std.specs.Result.{result_ok};
 ghost use Rattle.run_model.specs.Kinds.{kind_number, kind_of};
 
+use std::error::Error;
+use std::fmt;
+
 /// The tables and numbers of a run that a reading can name.
-#[derive(Clone, Copy)]
+#[derive(Clone, Copy, PartialEq, Eq, Debug)]
 pub enum Kind {
     /// What the inner pass sent on about an interleaved bit.
     Extrinsic = 1,
@@ -16,29 +20,40 @@ pub enum Kind {
     Ties = 4,
 }
 
-impl Kind {
-    /// The number that names a kind.
-    pub fn number(self) -> u8
-        ensures value { result ≡ kind_number self }
-    {
-        match self {
-            Kind::Extrinsic => 1,
-            Kind::Prior => 2,
-            Kind::Reliability => 3,
-            Kind::Ties => 4,
-        }
-    }
+/// A number names no kind of reading.
+#[derive(Clone, Copy, PartialEq, Eq, Debug)]
+pub struct UnknownKind;
 
-    /// The kind that a number names, or none.
-    pub fn numbered(n: u8) -> Option<Kind>
-        ensures value { result ≡ kind_of n }
-    {
+/// The number that names a kind.
+impl From<Kind> for u8 {
+    ghost from_gives = { λ kind n. n ≡ kind_number kind };
+
+    fn from(kind: Kind) -> u8 {
+        kind as u8
+    }
+}
+
+/// The kind that a number names.
+impl TryFrom<u8> for Kind {
+    type Error = UnknownKind;
+
+    ghost try_from_gives = { λ n r. result_ok r ≡ kind_of n };
+
+    fn try_from(n: u8) -> Result<Kind, UnknownKind> {
         match n {
-            1 => Some(Kind::Extrinsic),
-            2 => Some(Kind::Prior),
-            3 => Some(Kind::Reliability),
-            4 => Some(Kind::Ties),
-            _ => None,
+            1 => Ok(Kind::Extrinsic),
+            2 => Ok(Kind::Prior),
+            3 => Ok(Kind::Reliability),
+            4 => Ok(Kind::Ties),
+            _ => Err(UnknownKind),
         }
     }
 }
+
+impl fmt::Display for UnknownKind {
+    fn fmt<W: fmt::Write>(&self, f: &mut fmt::Formatter<W>) -> fmt::Result {
+        f.write_str("no kind of reading has this number")
+    }
+}
+
+impl Error for UnknownKind {}

@@ -9,5 +9,5 @@ mod state;
 
 pub use answers::{Answer, Reading};
 pub use calls::Call;
-pub use kinds::Kind;
+pub use kinds::{Kind, UnknownKind};
 pub use state::{RunState, Standing};

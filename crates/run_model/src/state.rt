@@ -3,7 +3,7 @@
 use plans::Plan;
 
 /// What stands in a run, for the calls that need it.
-#[derive(Clone, Copy)]
+#[derive(Clone, Copy, PartialEq, Eq, Debug)]
 pub enum Standing {
     /// Since the run was opened, or a row came, no pass was made.
     Nothing,

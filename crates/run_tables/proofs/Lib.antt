@@ -1,3 +1,2 @@
-pub mod Fills
-pub mod Interleaved
+pub mod Written
 pub mod Decided

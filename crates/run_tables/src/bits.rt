@@ -1,11 +1,10 @@
 //! The decided bits: their remainder, and the payload that they make.
 
-ghost use Rattle.std.specs.Prelude.{◌≡◌, ℕ, ◌+◌, ◌*◌, ◌<◌, ◌≤◌, map, length};
-ghost use Rattle.std.specs.List.{range_with_len};
+ghost use Rattle.std.specs.Prelude.{◌≡◌, ◌≤◌, length};
 ghost use Rattle.plans.specs.Plans.{stages};
 ghost use Rattle.polynomial.specs.Polynomials.{value};
 ghost use Rattle.run_model.specs.Tables.{fronted};
-ghost use Rattle.run_model.specs.Model.{decided_bit, decided_remainder, decided_payload};
+ghost use Rattle.run_model.specs.Model.{decided_bits, decided_remainder, decided_payload};
 
 use plans::Plan;
 use polynomial::with_coefficient;
@@ -16,20 +15,20 @@ pub fn remainder_of(plan: Plan, d: &[u8]) -> u32
     ensures value { result ≡ decided_remainder plan.values d.now }
 {
     let mut r = 0;
-    for k in 0..plan.stages() - 2 {
-        r = with_coefficient(r, d[k] == 1);
+    for bit in &d[..plan.stages() - 2] {
+        r = with_coefficient(r, *bit == 1);
     }
     r
 }
 
-// The byte of the eight decided bits from `at` on, the most significant first.
-fn byte_at(d: &[u8], at: usize) -> u8
-    requires { at + 8 ≤ length d.now }
-    ensures value { result ≡ value (map (decided_bit d.now) (range_with_len at 8)) }
+// The byte of eight decided bits, the most significant first.
+fn byte_of(bits: &[u8]) -> u8
+    requires { length bits.now ≡ 8 }
+    ensures value { result ≡ value (decided_bits 8 bits.now) }
 {
     let mut value: u32 = 0;
-    for i in 0..8 {
-        value = 2 * value + u32::from(d[at + i] == 1);
+    for bit in bits {
+        value = 2 * value + u32::from(*bit == 1);
     }
     value as u8
 }
@@ -39,7 +38,8 @@ pub fn take_payload(plan: Plan, d: &[u8], out: &mut [u8])
     requires { (stages plan.values ≤ length d.now) × (plan.values.bytes ≤ length out.old) }
     ensures after { out.new ≡ fronted plan.values.bytes (decided_payload plan.values d.now) out.old }
 {
-    for i in 0..plan.bytes() {
-        out[i] = byte_at(d, 8 * i);
+    // Zipped with `d.chunks_exact(8)`, nothing is known afterwards of what was written through `iter_mut`.
+    for (i, byte) in out[..plan.bytes()].iter_mut().enumerate() {
+        *byte = byte_of(&d[8 * i..8 * i + 8]);
     }
 }

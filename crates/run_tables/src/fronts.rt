@@ -1,6 +1,7 @@
 //! The fronts of tables, rows and marks.
+// The tables are the caller's, lent whole, and a plan uses their fronts: so a count stands beside a table.
 
-ghost use Rattle.std.specs.Prelude.{◌≡◌, ℕ, ◌+◌, ◌*◌, ◌≤◌, length};
+ghost use Rattle.std.specs.Prelude.{◌≡◌, ◌+◌, ◌*◌, ◌≤◌, length};
 ghost use Rattle.run_model.specs.Tables.{cleared, row_laid};
 ghost use Rattle.run_model.specs.Model.{none_missing};
 
@@ -9,27 +10,19 @@ pub fn clear<T: Copy>(table: &mut [T], n: usize, z: T)
     requires { n ≤ length table.old }
     ensures after { table.new ≡ cleared n z table.old }
 {
-    for i in 0..n {
-        table[i] = z;
+    // `fill` asks for a clone that cannot fail, and `Copy` does not say that of `T`.
+    for entry in &mut table[..n] {
+        *entry = z;
     }
 }
 
-// Copies bytes into a part of a table that is as long.
-fn copy(part: &mut [u8], bytes: &[u8])
-    requires { length part.old ≡ length bytes.now }
-    ensures { part.new ≡ bytes.now }
+/// Lays the bytes of row `k`, of rows that are all as long; every other row is as it was.
+pub fn lay_row(rows: &mut [u8], k: usize, bytes: &[u8])
+    requires room { k * length bytes.now + length bytes.now ≤ length rows.old }
+    ensures after { rows.new ≡ row_laid k (length bytes.now) bytes.now rows.old }
 {
-    part.copy_from_slice(bytes)
-}
-
-/// Lays the `m` bytes of row `k`; every other row is as it was.
-pub fn lay_row(rows: &mut [u8], k: usize, m: usize, bytes: &[u8])
-    requires room { k * m + m ≤ length rows.old }
-    requires length { length bytes.now ≡ m }
-    ensures after { rows.new ≡ row_laid k m bytes.now rows.old }
-{
-    let at = k * m;
-    copy(&mut rows[at..at + m], bytes);
+    let at = k * bytes.len();
+    rows[at..at + bytes.len()].copy_from_slice(bytes);
 }
 
 /// Whether none of the first `n` marks is 0.
@@ -37,9 +30,5 @@ pub fn none_missing(marks: &[u8], n: usize) -> bool
     requires { n ≤ length marks.now }
     ensures value { result ≡ none_missing n marks.now }
 {
-    let mut all = true;
-    for k in 0..n {
-        all &= marks[k] != 0;
-    }
-    all
+    marks[..n].iter().all(|m| *m != 0)
 }

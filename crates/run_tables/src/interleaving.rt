@@ -1,6 +1,7 @@
 //! The way of numbers from interleaved to coded bits and back.
+// One writes at place f(j) and the other reads there: one function for both would take the direction, and be no plainer.
 
-ghost use Rattle.std.specs.Prelude.{◌≡◌, ℕ, ◌≤◌, length};
+ghost use Rattle.std.specs.Prelude.{◌≡◌, ◌≤◌, length};
 ghost use Rattle.plans.specs.Plans.{coded, interleaver};
 ghost use Rattle.run_model.specs.Tables.{fronted, placed, gathered_by};
 
@@ -11,11 +12,8 @@ pub fn place(plan: Plan, e: &[i16], x: &mut [i16])
     requires { (coded plan.values ≤ length e.now) × (coded plan.values ≤ length x.old) }
     ensures after { x.new ≡ placed (interleaver plan.values) (coded plan.values) e.now x.old }
 {
-    for j in 0..plan.coded() {
-        let Some(i) = plan.interleave(j) else {
-            unreachable()
-        };
-        x[i] = e[j];
+    for (j, sent) in e[..plan.coded()].iter().enumerate() {
+        x[plan.interleave(j).unwrap()] = *sent;
     }
 }
 
@@ -24,10 +22,7 @@ pub fn gather(plan: Plan, g: &[i16], a: &mut [i16])
     requires { (coded plan.values ≤ length g.now) × (coded plan.values ≤ length a.old) }
     ensures after { a.new ≡ fronted (coded plan.values) (gathered_by (interleaver plan.values) (coded plan.values) g.now) a.old }
 {
-    for j in 0..plan.coded() {
-        let Some(i) = plan.interleave(j) else {
-            unreachable()
-        };
-        a[j] = g[i];
+    for (j, told) in a[..plan.coded()].iter_mut().enumerate() {
+        *told = g[plan.interleave(j).unwrap()];
     }
 }

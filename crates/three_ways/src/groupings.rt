@@ -22,11 +22,16 @@ pub(crate) fn show_groupings(rt: &HostRuntime) -> anyhow::Result<()> {
     println!(rt; "two columns: cost {} ties {}", all.cost, all.count)?;
     let table = table.as_mut_slice();
     let ends = ends.as_mut_slice();
-    show_order(rt, &[1, 2, 3, 4], one_order(&t, &[1, 2, 3, 4], table, ends))?;
-    show_order(rt, &[4, 3, 2, 1], one_order(&t, &[4, 3, 2, 1], table, ends))?;
-    show_order(rt, &[2, 4, 1, 3], one_order(&t, &[2, 4, 1, 3], table, ends))?;
-    show_order(rt, &[3, 1, 4, 2], one_order(&t, &[3, 1, 4, 2], table, ends))?;
-    show_order(rt, &[1, 1, 2, 3], one_order(&t, &[1, 1, 2, 3], table, ends))?;
+    let orders: [&[usize]; 5] = [
+        &[1, 2, 3, 4],
+        &[4, 3, 2, 1],
+        &[2, 4, 1, 3],
+        &[3, 1, 4, 2],
+        &[1, 1, 2, 3],
+    ];
+    for order in orders {
+        show_order(rt, order, one_order(&t, order, table, ends))?;
+    }
     Ok(())
 }
 

@@ -5,5 +5,5 @@
 mod names;
 mod tables;
 
-pub use names::Way;
+pub use names::{UnknownWay, Way};
 pub use tables::work;

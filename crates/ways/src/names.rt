@@ -1,7 +1,11 @@
 //! The names of the ways.
 
 ghost use Rattle.std.specs.Prelude.{◌≡◌};
+ghost use Rattle.std.specs.Result.{result_ok};
 ghost use Rattle.ways.specs.Ways.{way_number, way_of};
+
+use std::error::Error;
+use std::fmt;
 
 /// How a pass is worked. No reliability depends on it; only the work table tells.
 #[derive(Clone, Copy, PartialEq, Eq, Debug)]
@@ -14,27 +18,39 @@ pub enum Way {
     Modular = 3,
 }
 
-impl Way {
-    /// The number that names a way.
-    pub fn number(self) -> u8
-        ensures value { result ≡ way_number self }
-    {
-        match self {
-            Way::Columns => 1,
-            Way::Metastages => 2,
-            Way::Modular => 3,
-        }
-    }
+/// A number names no way.
+#[derive(Clone, Copy, PartialEq, Eq, Debug)]
+pub struct UnknownWay;
 
-    /// The way that a number names, or none.
-    pub fn numbered(n: u8) -> Option<Way>
-        ensures value { result ≡ way_of n }
-    {
+/// The number that names a way.
+impl From<Way> for u8 {
+    ghost from_gives = { λ way n. n ≡ way_number way };
+
+    fn from(way: Way) -> u8 {
+        way as u8
+    }
+}
+
+/// The way that a number names.
+impl TryFrom<u8> for Way {
+    type Error = UnknownWay;
+
+    ghost try_from_gives = { λ n r. result_ok r ≡ way_of n };
+
+    fn try_from(n: u8) -> Result<Way, UnknownWay> {
         match n {
-            1 => Some(Way::Columns),
-            2 => Some(Way::Metastages),
-            3 => Some(Way::Modular),
-            _ => None,
+            1 => Ok(Way::Columns),
+            2 => Ok(Way::Metastages),
+            3 => Ok(Way::Modular),
+            _ => Err(UnknownWay),
         }
     }
 }
+
+impl fmt::Display for UnknownWay {
+    fn fmt<W: fmt::Write>(&self, f: &mut fmt::Formatter<W>) -> fmt::Result {
+        f.write_str("no way has this number")
+    }
+}
+
+impl Error for UnknownWay {}

@@ -1,6 +1,6 @@
-use Rattle.std.proofs.Common.{◌<◌, length, arith}
-use Rattle.run_tables.proofs.Fills.{cleared_more}
+use Rattle.std.proofs.Common.{arith}
+use Rattle.run_tables.proofs.Written.{written_same}
 use Rattle.run_tables.proofs.fronts.clear.Goals as goal
 
-pub loop-i-preserved : goal.loop-i-preserved
-loop-i-preserved g c = let h : c.loop-i.i < length c.args.table.now = omega arith in simp c.loop-i.invariant (cleared_more _ _ _ h)
+pub returns : goal.returns
+returns g c = record { after = written_same c.args.n _ c.args.z _ _ c.requires (omega arith) c.loop-entry-test.false c.loop-entry.invariant }

@@ -1,6 +1,5 @@
-use Rattle.std.proofs.Common.{◌≡◌}
-use Rattle.run_model.specs.Tables.{cleared}
+use Rattle.std.proofs.Common.{◌≡◌, ℕ, ◌<◌, get_or}
 use Rattle.run_tables.proofs.fronts.clear.Given as goal
 
-abbrev pub invariant-loop-i : goal.invariant-loop-i
-invariant-loop-i g l = l.table ≡ cleared l.i l.z l.initial.table
+abbrev pub invariant-loop-entry : goal.invariant-loop-entry
+invariant-loop-entry g l = (k : ℕ) → k < l.entry-index → get_or l.entry-items k l.z ≡ l.z

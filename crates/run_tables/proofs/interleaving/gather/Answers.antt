@@ -1,12 +1,9 @@
-use Rattle.std.proofs.Common.{◌<◌, get_or, pos, arith, w16, SFits, to_z, of_z, rules}
-use Rattle.std.proofs.lemmas.Int.{to_z-of_z}
+use Rattle.std.proofs.Common.{get_or, pos, arith}
 use Rattle.plans.specs.Plans.{coded, interleaver}
-use Rattle.run_tables.proofs.Interleaved.{found, gathered_more}
+use Rattle.run_tables.proofs.Written.{written}
 use Rattle.run_tables.proofs.interleaving.gather.Goals as goal
 
-pub loop-j-preserved : goal.loop-j-preserved
-loop-j-preserved c =
-    let h : c.loop-j.j < coded c.args.plan.values = omega (arith, c.coded-j-end.ensures.value) in
-    let f : SFits w16 (get_or c.args.g.now c.in-Some.i (pos 0)) = search rules in
-    gathered_more (interleaver c.args.plan.values) c.loop-j.j c.in-Some.i (to_z w16 (of_z w16 (get_or c.args.g.now c.in-Some.i (pos 0)))) c.args.g.now c.args.a.now c.loop-j.a (omega arith)
-    (found c.args.plan.values c.loop-j.j c.in-Some.i h c.in-Some.ensures.value) (to_z-of_z w16 (get_or c.args.g.now c.in-Some.i (pos 0)) f) c.loop-j.invariant
+pub returns : goal.returns
+returns c =
+    let v = c.args.plan.values in
+    record { after = written (λ j. get_or c.args.g.now (interleaver v j) (pos 0)) (coded v) _ _ (pos 0) _ _ c.coded.ensures.value c.requires.1 (omega arith) c.loop-j-test.false c.loop-j.invariant }
