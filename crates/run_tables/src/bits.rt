@@ -22,8 +22,7 @@ pub fn remainder_of(plan: Plan, d: &[u8]) -> u32
 }
 
 // The byte of eight decided bits, the most significant first.
-fn byte_of(bits: &[u8]) -> u8
-    requires { length bits.now ≡ 8 }
+fn byte_of(bits: &[u8; 8]) -> u8
     ensures value { result ≡ value (decided_bits 8 bits.now) }
 {
     let mut value: u32 = 0;
@@ -38,8 +37,9 @@ pub fn take_payload(plan: Plan, d: &[u8], out: &mut [u8])
     requires { (stages plan.values ≤ length d.now) × (plan.values.bytes ≤ length out.old) }
     ensures after { out.new ≡ fronted plan.values.bytes (decided_payload plan.values d.now) out.old }
 {
-    // Zipped with `d.chunks_exact(8)`, nothing is known afterwards of what was written through `iter_mut`.
+    let (eights, _) = d.as_chunks::<8>();
+    // Zipped with `eights`, nothing is known afterwards of what was written through `iter_mut`.
     for (i, byte) in out[..plan.bytes()].iter_mut().enumerate() {
-        *byte = byte_of(&d[8 * i..8 * i + 8]);
+        *byte = byte_of(&eights[i]);
     }
 }
