@@ -1,2 +1,1 @@
 pub mod InnerPass
-pub mod Told

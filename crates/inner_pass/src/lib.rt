@@ -2,37 +2,28 @@
 
 #![tactic(auto)]
 
-ghost use Rattle.std.specs.Prelude.{◌≡◌, ◌+◌, ◌*◌, ◌^◌, ◌≤◌, ◌++◌, map, length, take, drop, pos, None, slice_index_or};
+ghost use Rattle.std.specs.Prelude.{◌≡◌, ◌+◌, ◌*◌, ◌^◌, ◌≤◌, map, length, take, drop, pos, None, slice_index_or};
 ghost use Rattle.std.specs.List.{range_with_len};
+ghost use Rattle.modulo.specs.Priors.{told_of};
 ghost use Rattle.trellises.specs.Inner.{inner};
 ghost use Rattle.ways.specs.WorkTables.{work_table};
 ghost use Rattle.inner_pass.specs.InnerPass.{inner_extrinsics};
-ghost use Rattle.inner_pass.specs.Told.{told_of};
 
-use modulo::sent_on;
-use reliabilities::Room;
+use marginals::Room;
+use modulo::told;
+use paths::Stage;
 use soft_outputs::stage_reliabilities;
 use trellises::Inner;
 use ways::{Way, work};
 
-// The number that is sent on about a bit, 0 where it is forced.
-fn told(reliability: Option<i32>, prior: i16) -> i16
-    ensures { result ≡ told_of reliability prior }
+// What is sent on about the bits of a stage, by their reliabilities and their priors.
+fn lay(bits: &[Option<i32>; 8], priors: &[i16], out: &mut [i16])
+    requires few { length out.old ≤ 8 }
+    requires beside { length priors.now ≡ length out.old }
+    ensures { out.new ≡ map (λ b. told_of (slice_index_or bits.now b None) (slice_index_or priors.now b (pos 0))) (range_with_len 0 (length out.old)) }
 {
-    match reliability {
-        Some(r) => sent_on(r, prior),
-        None => 0,
-    }
-}
-
-// What is sent on about the m bits of a stage, whose priors stand from `at` on, into the places from `at` on.
-fn lay(bits: &[Option<i32>; 8], at: usize, m: usize, priors: &[i16], out: &mut [i16])
-    requires room { (m ≤ 8) × (at + m ≤ length priors.now) × (at + m ≤ length out.old) }
-    ensures front { take (at + m) out.new ≡ take at out.old ++ map (λ b. told_of (slice_index_or bits.now b None) (slice_index_or priors.now (at + b) (pos 0))) (range_with_len 0 m) }
-    ensures tail { drop (at + m) out.new ≡ drop (at + m) out.old }
-{
-    for b in 0..m {
-        out[at + b] = told(bits[b], priors[at + b]);
+    for (b, sent) in out.iter_mut().enumerate() {
+        *sent = told(bits[b], priors[b]);
     }
 }
 
@@ -56,10 +47,12 @@ pub fn inner_pass(
 {
     let t = Inner::new(m, n, rows, priors);
     work(way, &t, table);
-    let mut room = Room::new();
+    let mut room = Room::new(0);
     let mut bits = [None; 8];
+    // The range is of stages: each has a part of the table, of the priors and of what is sent on.
     for k in 0..n {
-        stage_reliabilities(way, &t, k, table, &mut room, &mut bits);
-        lay(&bits, k * m, m, priors, out);
+        stage_reliabilities(way, &Stage::new(&t, k), table, &mut room, &mut bits);
+        let at = k * m;
+        lay(&bits, &priors[at..at + m], &mut out[at..at + m]);
     }
 }

@@ -1,7 +1,7 @@
 -- The rows of a frame.
-use Rattle.std.proofs.Common.{◌≡◌, ℕ, ◌+◌, ◌-◌, ◌*◌, ◌<◌, ◌≤◌, List, length, get_or, take, ◌++◌, sym, ap, ◌∙◌, ⊎_elim, mul-le-mul_right, add-mul, one-mul, length-take, arith}
+use Rattle.std.proofs.Common.{◌≡◌, ℕ, ◌+◌, ◌-◌, ◌*◌, ◌<◌, ◌≤◌, List, length, get_or, take, drop, ◌++◌, sym, ap, ◌∙◌, ⊎_elim, mul-le-mul_right, add-mul, one-mul, length-take, arith}
 use borrow.Rule.Slice.PartMut.{put_mid, post_of}
-use Rattle.std.proofs.lemmas.List.{get_or-take, get_or_append_left, get_or-append_right}
+use Rattle.std.proofs.lemmas.List.{get_or-take, get_or-drop, get_or_append_left, get_or-append_right}
 use Rattle.std.proofs.lemmas.Bool.{cases_eq}
 use Rattle.paths.specs.Semirings.{Operations}
 use Rattle.marginals.specs.Words.{entry_of}
@@ -37,6 +37,12 @@ module _ {W : Type 0} (d : W) (a k : ℕ) (xs ys : List W) (room : a ≤ length 
       get_or-append_right (take a xs) (ys ++ post_of a k xs) a (a + t) d l (omega arith)
       ∙ ap (λ n. get_or (ys ++ post_of a k xs) n d) at
       ∙ get_or_append_left ys (post_of a k xs) d t h
+
+-- a part of n entries from a place on, at an entry of it
+pub part_entry : {W : Type 0} (d : W) (xs : List W) (at n s : ℕ) → s < n → get_or (take (at + n - at) (drop at xs)) s d ≡ get_or xs (at + s) d
+part_entry d xs at n s h =
+    let many : at + n - at ≡ n = omega arith in
+    ap (λ m. get_or (take m (drop at xs)) s d) many ∙ get_or-take n (drop at xs) s d h ∙ get_or-drop at xs s d
 
 -- so many rows of a frame are laid
 abbrev pub FrameLaid : {W : Type 0} → Operations W → List W → List W → ℕ → ℕ → List W → Type 0

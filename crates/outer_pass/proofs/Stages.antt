@@ -7,11 +7,13 @@ use Rattle.paths.specs.Least.{top}
 use Rattle.paths.specs.Trellises.{Meaning}
 use Rattle.modulo.specs.Modulo.{reliability}
 use Rattle.modulo.specs.Priors.{extrinsic}
+use Rattle.trellises.specs.declared.outer.Outer.{Outer}
 use Rattle.trellises.specs.Outer.{outer}
 use Rattle.trellises.specs.OuterLaws.{outer_lawful, outer_reaches}
 use Rattle.reliabilities.specs.Bounds.{Bounded}
 use Rattle.reliabilities.proofs.Bounds.{wider}
-use Rattle.reliabilities.proofs.Stages.{connected, told_bounded}
+use Rattle.reliabilities.specs.ModuloTells.{connected}
+use Rattle.reliabilities.proofs.Stages.{told_bounded}
 use Rattle.extrinsics.specs.Extrinsics.{reliability_of, sent_on}
 use Rattle.ways.specs.declared.names.Way.{Way}
 use Rattle.ways.specs.WorkTables.{work_table}
@@ -35,9 +37,13 @@ decided_is z o = decided_cond (eqb z top) (eqb o top) (ltb o z) (pos z -ℤ pos 
 pub same_work : (way : Way) (m t : Meaning) (n : ℕ) (table : List ℕ) → table ≡ work_table way 4 m n → m ≡ t → table ≡ work_table way 4 t n
 same_work way m t n table is e = is ∙ ap (λ w. work_table way 4 w n) e
 
--- a bit of one trellis is that of the same trellis
-pub of_same : (m t : Meaning) (k b : ℕ) (r : Option ℤ) → r ≡ reliability_of 4 m k b → m ≡ t → r ≡ reliability_of 4 t k b
-of_same m t k b r is e = is ∙ ap (λ w. reliability_of 4 w k b) e
+-- a bit of one stage is that of the same stage of the same trellis
+pub of_same : (m t : Meaning) (i k b : ℕ) (r : Option ℤ) → r ≡ reliability_of 4 m i b → m ≡ t → i ≡ k → r ≡ reliability_of 4 t k b
+of_same m t i k b r is e same = is ∙ ap (λ w. reliability_of 4 w i b) e ∙ ap (λ k. reliability_of 4 t k b) same
+
+-- what the same trellis means
+pub same_meaning : (t u : Outer) → t ≡ u → outer t.n t.priors.now ≡ outer u.n u.priors.now
+same_meaning t u e = ap (λ (t : Outer). outer t.n t.priors.now) e
 
 module _ (n : ℕ) (priors : List ℤ) (k : ℕ) (r : Option ℤ) where
   pub decision_is : (x : ℕ) → r ≡ reliability_of 4 (outer n priors) k 2 → x ≡ decided_of r → x ≡ decision n priors k

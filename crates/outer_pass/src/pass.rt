@@ -5,8 +5,10 @@ ghost use Rattle.trellises.specs.Outer.{outer};
 ghost use Rattle.ways.specs.WorkTables.{work_table};
 ghost use Rattle.outer_pass.specs.OuterPass.{outer_extrinsics, data_reliabilities, decisions};
 
-use super::read::{decide, narrow, told};
-use reliabilities::Room;
+use super::read::{decide, narrow};
+use marginals::Room;
+use modulo::told;
+use paths::Stage;
 use soft_outputs::stage_reliabilities;
 use trellises::Outer;
 use ways::{Way, work};
@@ -36,10 +38,11 @@ pub fn outer_pass(
 {
     let t = Outer::new(n, priors);
     work(way, &t, table);
-    let mut room = Room::new();
+    let mut room = Room::new(0);
     let mut bits = [None; 8];
+    // The range is of stages: each has two places of `out`, and one of `found` and `decided`, which are lent apart.
     for k in 0..n {
-        stage_reliabilities(way, &t, k, table, &mut room, &mut bits);
+        stage_reliabilities(way, &Stage::new(&t, k), table, &mut room, &mut bits);
         out[2 * k] = told(bits[0], priors[2 * k]);
         out[2 * k + 1] = told(bits[1], priors[2 * k + 1]);
         found[k] = narrow(bits[2]);

@@ -2,7 +2,7 @@
 use Rattle.std.proofs.Common.{◌≡◌, ℕ, suc, ◌+◌, ◌-◌, ◌*◌, ◌<◌, ◌≤◌, ltb, List, length, get_or, take, drop, length-take, length-drop, refl, ap, ◌⊎◌, ⊎_elim, ◌∙◌, le_refl, suc-mul, mul-le-mul, arith}
 use Rattle.std.proofs.lemmas.Nat.{div-mul-add, mod-mul-add}
 use Rattle.std.proofs.lemmas.Bool.{lt-ltb, le-ltb}
-use Rattle.std.proofs.lemmas.List.{get_or-take, get_or-drop}
+use Rattle.marginals.proofs.Frames.{part_entry}
 use Rattle.paths.specs.Trellises.{Meaning}
 use Rattle.paths.specs.Paths.{path_join, before, after}
 use Rattle.paths.specs.Least.{least}
@@ -36,12 +36,6 @@ back_entry way states m k s p at l h =
     let near : ltb (k * states + s) (column_entries states m) ≡ _ = lt-ltb (k * states + s) (column_entries states m) (omega arith) in
     rw (far, q, near, div-mul-add k states s h, mod-mul-add k states s h) refl
 
--- a part of n entries from a place on, at an entry of it
-pub part_entry : (table : List ℕ) (at n s : ℕ) → s < n → get_or (take (at + n - at) (drop at table)) s 0 ≡ get_or table (at + s) 0
-part_entry table at n s h =
-    let many : at + n - at ≡ n = omega arith in
-    ap (λ m. get_or (take m (drop at table)) s 0) many ∙ get_or-take n (drop at table) s 0 h ∙ get_or-drop at table s 0
-
 -- the two columns on both sides of a stage, read from a table at the places that the code computes
 module _ (way : Way) (states : ℕ) (m : Meaning) (table : List ℕ) (k sc st : ℕ) (e : sc ≡ states) (f : st ≡ m.stages) (low : k < m.stages)
     (long : m.stages * states + states + (m.stages * states + states) ≤ length table)
@@ -59,7 +53,7 @@ module _ (way : Way) (states : ℕ) (m : Meaning) (table : List ℕ) (k sc st : 
   pub front_of : (s : ℕ) → s < states → get_or (take (k * sc + sc - k * sc) (drop (k * sc) table)) s 0 ≡ kept_as way (path_join least (before states m k s))
   front_of s h =
       let i = inside states m.stages k s (omega arith) h in
-      part_entry table (k * sc) sc s (omega arith) ∙ ap (λ x. get_or table (k * x + s) 0) e ∙ worked (k * states + s) (omega arith) ∙ front_entry way states m k s (omega arith) h
+      part_entry 0 table (k * sc) sc s (omega arith) ∙ ap (λ x. get_or table (k * x + s) 0) e ∙ worked (k * states + s) (omega arith) ∙ front_entry way states m k s (omega arith) h
 
   pub back_of : (s : ℕ) → s < states
       → get_or (take (st * sc + sc + k * sc + sc + sc - (st * sc + sc + k * sc + sc)) (drop (st * sc + sc + k * sc + sc) table)) s 0 ≡ kept_as way (path_join least (after m (suc k) s))
@@ -67,7 +61,7 @@ module _ (way : Way) (states : ℕ) (m : Meaning) (table : List ℕ) (k sc st : 
       let i = inside states m.stages (suc k) s low h in
       let z = suc-mul k states in
       let at : st * sc + sc + k * sc + sc + s ≡ m.stages * states + states + (suc k * states + s) = rw (e, f) (omega arith) in
-      part_entry table (st * sc + sc + k * sc + sc) sc s (omega arith)
+      part_entry 0 table (st * sc + sc + k * sc + sc) sc s (omega arith)
       ∙ ap (λ x. get_or table x 0) at ∙ worked (m.stages * states + states + (suc k * states + s)) (omega arith)
       ∙ back_entry way states m (suc k) s (m.stages * states + states + (suc k * states + s)) refl low h
 

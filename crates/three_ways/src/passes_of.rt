@@ -2,7 +2,8 @@
 
 ghost use Rattle.std.specs.Prelude.{◌≡◌, ◌≤◌, length};
 
-use reliabilities::Room;
+use marginals::Room;
+use paths::Stage;
 use soft_outputs::stage_reliabilities;
 use std::io;
 use trellises::Inner;
@@ -23,12 +24,12 @@ pub(crate) fn show_pass(
     show_entries(rt, "forward", &table[..6])?;
     show_entries(rt, "backward", &table[6..12])?;
     show_entries(rt, "behind", &table[12..26])?;
-    let mut room = Room::new();
+    let mut room = Room::new(0);
     let mut bits = [None; 8];
     let mut found = [None; 4];
-    for stage in 0..2 {
-        stage_reliabilities(way, t, stage, table, &mut room, &mut bits);
-        found[2 * stage..2 * stage + 2].copy_from_slice(&bits[..2]);
+    for k in 0..2 {
+        stage_reliabilities(way, &Stage::new(t, k), table, &mut room, &mut bits);
+        found[2 * k..2 * k + 2].copy_from_slice(&bits[..2]);
     }
     for (j, reliability) in found.iter().enumerate() {
         show_bit(rt, j, *reliability)?;

@@ -1,8 +1,7 @@
-use Rattle.std.proofs.Common.{◌≡◌, ◌+◌, ◌++◌, map, get_or, take, drop, pos, None}
-use Rattle.std.specs.List.{range_with_len}
-use Rattle.inner_pass.specs.Told.{told_of}
+-- The places before b are laid.
+use Rattle.std.proofs.Common.{◌≡◌, ℕ, ◌<◌, get_or, pos, None}
+use Rattle.modulo.specs.Priors.{told_of}
 use Rattle.inner_pass.proofs.lay.Given as goal
 
 abbrev pub invariant-loop-b : goal.invariant-loop-b
-invariant-loop-b l = (take (l.at + l.b) l.out ≡ take l.at l.initial.out ++ map (λ b. told_of (get_or l.bits b None) (get_or l.priors (l.at + b) (pos 0))) (range_with_len 0 l.b))
-    × (drop (l.at + l.m) l.out ≡ drop (l.at + l.m) l.initial.out)
+invariant-loop-b l = (b : ℕ) → b < l.b → get_or l.out b (pos 0) ≡ told_of (get_or l.bits b None) (get_or l.priors b (pos 0))

@@ -1,13 +1,23 @@
-use Rattle.std.proofs.Common.{◌≡◌, ◌+◌, ◌*◌, length, get_or, pos, ◌∙◌, arith, w16, SFits, to_z, of_z, rules}
+use Rattle.std.proofs.Common.{◌≡◌, ◌+◌, ◌*◌, length, get_or, pos, sym, ap, ◌∙◌, arith, w16, SFits, to_z, of_z, rules}
 use Rattle.std.proofs.lemmas.Int.{to_z-of_z}
+use Rattle.trellises.specs.declared.outer.Outer.{Outer}
+use Rattle.ways.specs.WorkTables.{work_entry}
 use Rattle.outer_pass.specs.OuterPass.{outer_extrinsic, data_reliability, decision, outer_extrinsics, data_reliabilities, decisions}
 use Rattle.outer_pass.proofs.Fronts.{front_none, front_more, front_two, front_all}
-use Rattle.outer_pass.proofs.Stages.{same_work, of_same, decision_is, found_is, small, sent_is}
+use Rattle.outer_pass.proofs.Stages.{same_work, same_meaning, of_same, decision_is, found_is, small, sent_is}
 use Rattle.outer_pass.proofs.pass.outer_pass.Goals as goal
 
 pub stage_reliabilities-requires : goal.stage_reliabilities-requires
 stage_reliabilities-requires c =
-    record { stage = omega arith; long = omega arith; worked = λ p h. c.work.ensures.table p (omega arith); cheap = omega arith; served = λ e. (omega arith, omega arith) }
+    let t = c.new.result.trellis.now in
+    let e = c.new.ensures.trellis in
+    let n : t.n ≡ c.args.n = ap (λ (t : Outer). t.n) e ∙ c.new-t.ensures.numbers in
+    record {
+      long = omega arith;
+      worked = λ p h. c.work.ensures.table p (omega arith) ∙ ap (λ m. work_entry c.args.way 4 m p) (sym (same_meaning t c.new-t.result e));
+      cheap = omega arith;
+      served = λ e. (omega arith, omega arith);
+    }
 
 pub bounds-found-k : goal.bounds-found-k
 bounds-found-k c = omega arith
@@ -18,7 +28,8 @@ bounds-decided-k c = omega arith
 pub narrow-requires : goal.narrow-requires
 narrow-requires c =
     small c.args.n c.args.priors.now c.loop-k.k _ c.requires.sizes c.loop-k-test.true
-    (of_same _ _ c.loop-k.k 2 _ (c.stage_reliabilities.ensures.told 2 (omega arith)) c.new-t.ensures.means)
+    (of_same _ _ _ c.loop-k.k 2 _ (c.stage_reliabilities.ensures.told 2 (omega arith))
+    (same_meaning c.new.result.trellis.now c.new-t.result c.new.ensures.trellis ∙ c.new-t.ensures.means) c.new.ensures.number)
 
 pub loop-k-init : goal.loop-k-init
 loop-k-init c = (
@@ -32,9 +43,10 @@ loop-k-preserved c =
     let n = c.args.n in
     let priors = c.args.priors.now in
     let k = c.loop-k.k in
-    let zeroth = of_same _ _ k 0 _ (c.stage_reliabilities.ensures.told 0 (omega arith)) c.new-t.ensures.means in
-    let first = of_same _ _ k 1 _ (c.stage_reliabilities.ensures.told 1 (omega arith)) c.new-t.ensures.means in
-    let data_bit = of_same _ _ k 2 _ (c.stage_reliabilities.ensures.told 2 (omega arith)) c.new-t.ensures.means in
+    let means = same_meaning c.new.result.trellis.now c.new-t.result c.new.ensures.trellis ∙ c.new-t.ensures.means in
+    let zeroth = of_same _ _ _ k 0 _ (c.stage_reliabilities.ensures.told 0 (omega arith)) means c.new.ensures.number in
+    let first = of_same _ _ _ k 1 _ (c.stage_reliabilities.ensures.told 1 (omega arith)) means c.new.ensures.number in
+    let data_bit = of_same _ _ _ k 2 _ (c.stage_reliabilities.ensures.told 2 (omega arith)) means c.new.ensures.number in
     let p : SFits w16 (get_or priors (2 * k) (pos 0)) = search rules in
     let q : SFits w16 (get_or priors (2 * k + 1) (pos 0)) = search rules in
     let x : SFits w16 c.told.result = search rules in
