@@ -3,7 +3,7 @@
 ghost use Rattle.std.specs.Prelude.{◌≡◌, ℕ, ◌+◌, ◌*◌, ◌/◌, ◌%◌, ◌^◌, ◌<◌, ◌≤◌, min, length, slice_index};
 ghost use Rattle.trellises.specs.Priors.{penalties};
 ghost use Rattle.trellises.specs.Inner.{slot_of, inner};
-ghost use Rattle.trellises.specs.InnerLaws.{inner_lawful, inner_reaches};
+ghost use Rattle.trellises.specs.InnerLaws.{InnerSizes, inner_lawful, inner_reaches};
 
 use super::rows::add_row;
 use super::slots::slot_table;
@@ -19,7 +19,7 @@ pub struct Inner<'a, 'b> {
     pub priors: &'b [i16],
     // An array, of which the first 2 ^ m entries count: there is no heap, and m is known only as it runs.
     slots: [u8; 256],
-    ghost sizes: { (1 ≤ m) × (m ≤ 8) × (1 ≤ n) × (n ≤ 16384) },
+    ghost sizes: { InnerSizes m n },
     ghost there: { (n * 2 ^ m ≤ length rows.now) × (n * m ≤ length priors.now) },
     ghost table: { (w : ℕ) → w < 2 ^ m → slice_index slots w ≡ slot_of 0 w m },
 }
@@ -27,7 +27,7 @@ pub struct Inner<'a, 'b> {
 impl<'a, 'b> Inner<'a, 'b> {
     /// The trellis of these rows and priors.
     pub fn new(m: usize, n: usize, rows: &'a [u8], priors: &'b [i16]) -> Inner<'a, 'b>
-        requires sizes { (1 ≤ m) × (m ≤ 8) × (1 ≤ n) × (n ≤ 16384) }
+        requires sizes { InnerSizes m n }
         requires there { (n * 2 ^ m ≤ length rows.now) × (n * m ≤ length priors.now) }
         ensures numbers { (result.m ≡ m) × (result.n ≡ n) }
         ensures tables { (result.rows.now ≡ rows.now) × (result.priors.now ≡ priors.now) }
