@@ -78,6 +78,7 @@ impl<'a, 'b> Inner<'a, 'b> {
     }
 
     /// The slot of a word out of a state; out of state 1 it mirrors that out of state 0.
+    #[tactic(auto, using(crate::proofs::SlotLaws::slot_low, crate::proofs::SlotLaws::mirrored))]
     fn slot(&self, from: usize, word: usize) -> usize
         requires { (from < 2) × (word < 2 ^ self.now.m) }
         ensures { result ≡ slot_of from word self.now.m }
@@ -159,6 +160,7 @@ impl<'a, 'b> Trellis for Inner<'a, 'b> {
         (k < self.n).then_some(2 * self.size())
     }
 
+    #[tactic(auto, using(crate::proofs::SlotLaws::slot_low, crate::proofs::InnerEdges::inner_past, crate::proofs::InnerEdges::inner_beyond, crate::proofs::InnerEdges::inner_made))]
     fn edge(&self, k: usize, i: usize) -> Option<Edge> {
         let size = self.size();
         if k >= self.n || i >= 2 * size {
@@ -175,6 +177,7 @@ impl<'a, 'b> Trellis for Inner<'a, 'b> {
         })
     }
 
+    #[tactic(auto, using(crate::specs::Bounds::penalties_low, crate::proofs::SlotLaws::slot_low))]
     fn costs(&self, k: usize, out: &mut [u32; 512]) {
         if k < self.n {
             word_penalties(self.word_priors(k), out);
