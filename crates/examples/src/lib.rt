@@ -5,8 +5,6 @@
 ghost use Rattle.examples.specs.Examples.{WorkedExamples};
 
 /// Every worked example holds.
-pub fn examples_hold() -> u8
+pub fn examples_hold()
     ensures examples { WorkedExamples }
-{
-    0
-}
+{}

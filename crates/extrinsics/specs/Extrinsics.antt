@@ -7,6 +7,7 @@ use Rattle.paths.specs.Least.{least}
 use Rattle.modulo.specs.Modulo.{reliability}
 use Rattle.modulo.specs.Priors.{extrinsic}
 use Rattle.trellises.specs.Inner.{inner}
+use Rattle.trellises.specs.InnerLaws.{InnerSizes}
 use Rattle.trellises.specs.Outer.{outer}
 
 -- the reliability of bit b of stage k's word, from the least costs over all paths with it 0 and over all with it 1; none where it is forced
@@ -24,7 +25,7 @@ Within511 (negsuc n) = n + 1 ≤ 511
 
 -- the inner trellis: whatever is told about an interleaved bit, with all else the same, the same is sent on about it
 abbrev pub InnerLeavesPriorOut : Type 0
-InnerLeavesPriorOut = (m n : ℕ) (rows : List ℕ) (priors : List ℤ) → (1 ≤ m) × (m ≤ 8) × (1 ≤ n) × (n ≤ 16384) → n * m ≤ length priors
+InnerLeavesPriorOut = (m n : ℕ) (rows : List ℕ) (priors : List ℤ) → InnerSizes m n → n * m ≤ length priors
     → (k b : ℕ) → k < n → b < m → (x y : ℤ) → Within511 x → Within511 y
     → sent_on 2 (inner m n rows (slice_set priors (k * m + b) x)) k b x ≡ sent_on 2 (inner m n rows (slice_set priors (k * m + b) y)) k b y
 

@@ -5,15 +5,11 @@
 ghost use Rattle.extrinsics.specs.Extrinsics.{InnerLeavesPriorOut, OuterLeavesPriorOut};
 
 /// Whatever is told about an interleaved bit of the inner trellis, the same is sent on about it.
-pub fn inner_leaves_prior_out() -> u8
+pub fn inner_leaves_prior_out()
     ensures { InnerLeavesPriorOut }
-{
-    0
-}
+{}
 
 /// Whatever is told about a coded bit of the outer trellis, the same is sent on about it.
-pub fn outer_leaves_prior_out() -> u8
+pub fn outer_leaves_prior_out()
     ensures { OuterLeavesPriorOut }
-{
-    0
-}
+{}

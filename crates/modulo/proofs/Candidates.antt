@@ -8,9 +8,9 @@ use Rattle.paths.specs.Columns.{forward, backward}
 use Rattle.paths.specs.Joins.{offered, candidate}
 use Rattle.paths.specs.Least.{least, top}
 use Rattle.paths.proofs.Reverses.{reversed_lawful}
+use Rattle.paths.proofs.Inside.{edge_lawful}
 use Rattle.modulo.specs.Modulo.{modulo, Stands}
 use Rattle.modulo.specs.Spread.{Connected, Served}
-use Rattle.modulo.proofs.Steps.{in_range}
 use Rattle.modulo.proofs.Heights.{high, room}
 use Rattle.modulo.proofs.Reversal.{reversed_connected, reversed_served}
 use Rattle.modulo.proofs.Windows.{Within, StandsWithin, put_within, still_stands, wider, chain_window, chain_stands, value_within}
@@ -37,7 +37,7 @@ pub candidate_low : (states ceiling bits : ℕ) (m : Meaning) → Lawful states 
     → forward least states m k e.from + backward least states m (suc k) e.to + e.cost < 2147483648
 candidate_low states ceiling bits m lawful low k within e has x y =
     let left = m.stages - suc k in
-    let q = room states ceiling bits m lawful low k e.from left e.cost (omega arith) x (in_range states ceiling bits m lawful k e within has).cheap in
+    let q = room states ceiling bits m lawful low k e.from left e.cost (omega arith) x (edge_lawful lawful k within has.0 e has.1).cheap in
     let l : forward least states (reversed m) left e.to ≤ left * ceiling = high states ceiling bits (reversed m) (reversed_lawful lawful) left e.to (omega arith) y in
     omega arith
 
@@ -63,7 +63,7 @@ module _ (states ceiling bits reach : ℕ) (m : Meaning) (h : Connected states c
   edge_window : (e : Edge) → Has (m.edges k) e
       → Within (start states m k) ((2 * reach + 1) * ceiling) (offered least (forward least states m k) (backward least states m (suc k)) (Some e))
   edge_window e has =
-      let range = in_range states ceiling bits m h.lawful k e within has in
+      let range = edge_lawful h.lawful k within has.0 e has.1 in
       let f = forward least states m k e.from in
       let b = backward least states m (suc k) e.to in
       let left = m.stages - suc k in
@@ -89,7 +89,7 @@ module _ (states ceiling bits reach : ℕ) (m : Meaning) (h : Served states ceil
   edge_stands : (e : Edge) → Has (m.edges k) e
       → Stands (offered least (forward least states m k) (backward least states m (suc k)) (Some e)) (offered modulo (forward modulo states m k) (backward modulo states m (suc k)) (Some e))
   edge_stands e has =
-      let range = in_range states ceiling bits m h.connected.lawful k e within has in
+      let range = edge_lawful h.connected.lawful k within has.0 e has.1 in
       let f = forward least states m k e.from in
       let b = backward least states m (suc k) e.to in
       let f' = forward modulo states m k e.from in

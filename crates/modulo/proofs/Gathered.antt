@@ -2,15 +2,9 @@
 use Rattle.std.proofs.Common.{◌≡◌, ℕ, zero, suc, ◌≤◌, min, Bool, true, false, cond, ◌⊎◌, List, [], ◌∷◌, refl, ◌∙◌, inl, inr, ⊎_elim, arith}
 use Rattle.std.proofs.lemmas.Bool.{cases_lt}
 use Rattle.paths.specs.declared.edges.Edge.{Edge}
-use Rattle.paths.specs.Trellises.{Each, Has}
+use Rattle.paths.specs.Trellises.{Has}
 use Rattle.paths.specs.Columns.{gathered}
 use Rattle.paths.specs.Least.{least}
-
--- what holds of each edge holds of one of them
-pub has_each : (P : Edge → Type 0) (es : List Edge) (e : Edge) → Each P es → Has es e → P e
-has_each P [] e all (i, q) = let z : ◌≡◌ {A = ℕ} 0 1 = cc in absurd (omega arith)
-has_each P (d ∷ es) e all (zero, q) = let q : d ≡ e = cc in rw q at all.0
-has_each P (d ∷ es) e all (suc i, q) = has_each P es e all.1 (i, q)
 
 no_more : (a x : ℕ) (b : Bool) → cond b (min a x) a ≤ a
 no_more a x true = omega arith

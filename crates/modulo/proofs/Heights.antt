@@ -4,8 +4,9 @@ use Rattle.std.proofs.lemmas.Bool.{cases_Bool}
 use Rattle.paths.specs.Trellises.{Meaning, Lawful}
 use Rattle.paths.specs.Columns.{parallel, forward}
 use Rattle.paths.specs.Least.{least, top}
+use Rattle.paths.proofs.Inside.{edge_lawful}
 use Rattle.modulo.proofs.Below.{below_held}
-use Rattle.modulo.proofs.Steps.{in_range, step_back}
+use Rattle.modulo.proofs.Steps.{step_back}
 
 -- no entry is above the top
 pub held : (states : ℕ) (m : Meaning) (k s : ℕ) → forward least states m k s ≤ top
@@ -25,7 +26,7 @@ module _ (states ceiling bits : ℕ) (m : Meaning) (lawful : Lawful states ceili
       let b = step_back states ceiling bits m lawful k s h in
       let e = b.0 in
       let q = b.3 in
-      let cheap = (in_range states ceiling bits m lawful k e (omega arith) b.1).cheap in
+      let cheap = (edge_lawful lawful k (omega arith) b.1.0 e b.1.1).cheap in
       let l = high k e.from (omega arith) (omega arith) in
       omega arith
 

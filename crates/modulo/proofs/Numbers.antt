@@ -51,6 +51,3 @@ signed_apart x y h k =
     ap (to_z w16) (apart_down x y l k ∙ e) ∙ to_z-neg w16 (y - x - 1) (omega arith) ∙ back)
     (λ l. ap (to_z w16) (apart_up x y l h) ∙ omega (arith, ints))
     (cases_lt x y)
-
-pub sum_remainders : (x y : ℕ) → (x % 65536 + y % 65536) % 65536 ≡ (x + y) % 65536
-sum_remainders x y = omega arith

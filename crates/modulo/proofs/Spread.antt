@@ -4,8 +4,9 @@ use Rattle.std.proofs.lemmas.Bool.{cases_lt}
 use Rattle.paths.specs.Trellises.{Meaning, Lawful, Linked, reversed}
 use Rattle.paths.specs.Columns.{forward}
 use Rattle.paths.specs.Least.{least, top}
+use Rattle.paths.proofs.Inside.{edge_lawful}
 use Rattle.modulo.specs.Spread.{Connected, ColumnsSpread}
-use Rattle.modulo.proofs.Steps.{in_range, step_on, step_back}
+use Rattle.modulo.proofs.Steps.{step_on, step_back}
 use Rattle.modulo.proofs.Heights.{high}
 use Rattle.modulo.proofs.Reversal.{reversed_connected}
 
@@ -21,7 +22,7 @@ module _ (states ceiling bits : ℕ) (m : Meaning) (lawful : Lawful states ceili
       let has = l.1 in
       let h = walk_on n (suc k) j e.to t (omega arith) within l.3 in
       let one = step_on states ceiling bits m lawful k e (omega arith) has in
-      let cheap = (in_range states ceiling bits m lawful k e (omega arith) has).cheap in
+      let cheap = (edge_lawful lawful k (omega arith) has.0 e has.1).cheap in
       let q : forward least states m k e.from ≡ forward least states m k s = ap (forward least states m k) l.2 in
       omega arith
 
@@ -37,7 +38,7 @@ module _ (states ceiling bits : ℕ) (m : Meaning) (lawful : Lawful states ceili
       let b = step_back states ceiling bits m lawful j s h in
       let e = b.0 in
       let q = b.3 in
-      let from_low = (in_range states ceiling bits m lawful j e (omega arith) b.1).from_low in
+      let from_low = (edge_lawful lawful j (omega arith) b.1.0 e b.1.1).from_low in
       let r = walk_back n k j e.from (omega arith) (omega arith) from_low (omega arith) in
       let l = r.2 in
       (r.0, r.1, omega arith)

@@ -2,22 +2,20 @@
 use Rattle.std.proofs.Common.{◌≡◌, ℕ, suc, ◌+◌, ◌<◌, ◌≤◌, min, ◌&&◌, eqb, refl, ap, ⊎_elim, arith}
 use Rattle.std.proofs.lemmas.Bool.{eq-eqb, eqb-true, and_from, and_parts}
 use Rattle.paths.specs.declared.edges.Edge.{Edge}
-use Rattle.paths.specs.Trellises.{Meaning, Lawful, LawfulEdge, Has}
+use Rattle.paths.specs.Trellises.{Meaning, Lawful, Has}
 use Rattle.paths.specs.Columns.{parallel, forward}
 use Rattle.paths.specs.Least.{least, top}
-use Rattle.modulo.proofs.Gathered.{has_each, gathered_low, gathered_one}
+use Rattle.paths.proofs.Inside.{edge_lawful}
+use Rattle.modulo.proofs.Gathered.{gathered_low, gathered_one}
 use Rattle.modulo.proofs.Below.{below_low, below_one}
 
 module _ (states ceiling bits : ℕ) (m : Meaning) (lawful : Lawful states ceiling bits m) where
-  pub in_range : (k : ℕ) (e : Edge) → k < m.stages → Has (m.edges k) e → LawfulEdge states ceiling bits e
-  in_range k e h has = has_each (LawfulEdge states ceiling bits) (m.edges k) e (lawful.every k h) has
-
   pub step_on : (k : ℕ) (e : Edge) → k < m.stages → Has (m.edges k) e → forward least states m (suc k) e.to ≤ forward least states m k e.from + e.cost
   unfolding forward
   step_on k e within has =
       let s = e.from in
       let t = e.to in
-      let a = below_low states (λ v. min (forward least states m k v + parallel least (m.edges k) v t) top) s (in_range k e within has).from_low in
+      let a = below_low states (λ v. min (forward least states m k v + parallel least (m.edges k) v t) top) s (edge_lawful lawful k within has.0 e has.1).from_low in
       let b = gathered_low (λ d. eqb d.from s && eqb d.to t) (λ d. min d.cost top) (m.edges k) top e has (and_from (eqb s s) (eqb t t) (eq-eqb s s refl) (eq-eqb t t refl)) in
       omega arith
 

@@ -1,9 +1,10 @@
 -- Numbers modulo 65,536 stand for costs that lie within one window, and join and chain keep that.
-use Rattle.std.proofs.Common.{◌≡◌, ℕ, ◌+◌, ◌-◌, ◌%◌, ◌<◌, ◌≤◌, min, ◌⊎◌, Some, ap, ◌∙◌, inl, inr, ⊎_elim, arith, w16, to_z}
+use Rattle.std.proofs.Common.{◌≡◌, ℕ, ◌+◌, ◌-◌, ◌%◌, ◌<◌, ◌≤◌, min, ◌⊎◌, Some, sym, ap, ◌∙◌, inl, inr, ⊎_elim, arith, w16, to_z}
+use Rattle.std.proofs.Math.Nat.{add-mod}
 use Rattle.std.proofs.lemmas.Bool.{cases_lt, eq-eqb, ne_eqb}
 use Rattle.paths.specs.Least.{top}
 use Rattle.modulo.specs.Modulo.{apart, nearer, sum_modulo, Stands, reliability, reliability_modulo}
-use Rattle.modulo.proofs.Numbers.{nearer_left, nearer_right, nearer_takes, nearer_keeps, sum_left, sum_right, sum_both, apart_up, apart_down, signed_apart, sum_remainders}
+use Rattle.modulo.proofs.Numbers.{nearer_left, nearer_right, nearer_takes, nearer_keeps, sum_left, sum_right, sum_both, apart_up, apart_down, signed_apart}
 
 -- x is the top, or lies within lo .. lo + d
 abbrev pub Within : ℕ → ℕ → ℕ → Type 0
@@ -79,7 +80,7 @@ chain_stands x y x' y' room (inr h) (inr k) =
       omega arith,
       sum_both y y' (omega arith) (omega arith)
           ∙ ap (λ n. (n + y') % 65536) h.1 ∙ ap (λ n. (x % 65536 + n) % 65536) k.1
-          ∙ sum_remainders x x' ∙ ap (λ n. n % 65536) (omega arith),
+          ∙ sym (add-mod x x' 65536) ∙ ap (λ n. n % 65536) (omega arith),
     )
 
 -- a low cost's value stands for it

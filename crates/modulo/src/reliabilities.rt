@@ -12,11 +12,8 @@ pub fn least_reliability(zero: u32, one: u32) -> Option<i32>
     requires { Near 2147483647 zero one }
     ensures { result ≡ reliability zero one }
 {
-    if zero == u32::MAX || one == u32::MAX {
-        None
-    } else {
-        Some((i64::from(zero) - i64::from(one)) as i32)
-    }
+    let forced = zero == u32::MAX || one == u32::MAX;
+    (!forced).then(|| (i64::from(zero) - i64::from(one)) as i32)
 }
 
 /// What is sent on about a bit: its reliability less what was told about it before, held within -511 to 511.

@@ -2,10 +2,10 @@
 use Rattle.std.proofs.Common.{◌≡◌, ℕ, zero, suc, ◌+◌, ◌-◌, ◌*◌, ◌<◌, ◌≤◌, Bool, true, cond, eqb, List, [], ◌∷◌, map, filter, sym, refl, ap, ◌∙◌, subst, inl, suc-mul, suc-add, zero-add, arith}
 use Rattle.std.proofs.lemmas.Bool.{eq-eqb}
 use Rattle.paths.specs.declared.edges.Edge.{Edge}
-use Rattle.paths.specs.Trellises.{Meaning, Lawful, LawfulEdge, Has, Linked}
+use Rattle.paths.specs.Trellises.{Meaning, Lawful, Has, Linked}
 use Rattle.paths.specs.Paths.{walks, paths, weight, path_join, at_stage}
 use Rattle.paths.specs.Least.{least, top}
-use Rattle.paths.proofs.Inside.{each_nth}
+use Rattle.paths.proofs.Inside.{edge_lawful}
 use Rattle.trellises.proofs.OneOf.{One, one_map, one_cond, one_joined, one_state, one_kept, one_least}
 
 -- edges that lead from a first state to one of stage k that passes a test, and from it to a last state
@@ -34,7 +34,7 @@ dearer ceiling n e p low h = omega (arith, suc-mul n ceiling)
 
 module _ {states ceiling bits : ℕ} {m : Meaning} (law : Lawful states ceiling bits m) where
   edge_cheap : (k : ℕ) → k < m.stages → (e : Edge) → Has (m.edges k) e → e.cost ≤ ceiling
-  edge_cheap k h e has = (each_nth (LawfulEdge states ceiling bits) (m.edges k) has.0 e (law.every k h) has.1).cheap
+  edge_cheap k h e has = (edge_lawful law k h has.0 e has.1).cheap
 
   -- one more edge in front
   lengthened : (P Q : List Edge → Type 0) (k n s : ℕ) (e : Edge) → Has (m.edges k) e → e.from ≡ s → ((p : List Edge) → P p → Q (e ∷ p))

@@ -3,11 +3,12 @@ use Rattle.std.specs.Prelude.{◌≡◌, ℕ, ◌+◌, ◌<◌, ◌≤◌, List,
 use Rattle.paths.specs.Paths.{path_join, paths_with}
 use Rattle.paths.specs.Least.{least, top}
 use Rattle.trellises.specs.Inner.{inner}
+use Rattle.trellises.specs.InnerLaws.{InnerSizes}
 use Rattle.trellises.specs.Outer.{outer}
 
 -- no interleaved bit is forced: as zero and as one, it lies on a path that costs less than what cannot be
 abbrev pub InterleavedBitsFree : Type 0
-InterleavedBitsFree = (m n : ℕ) (rows : List ℕ) (priors : List ℤ) → (1 ≤ m) × (m ≤ 8) × (1 ≤ n) × (n ≤ 16384) → (k b v : ℕ) → k < n → b < m → v < 2
+InterleavedBitsFree = (m n : ℕ) (rows : List ℕ) (priors : List ℤ) → InnerSizes m n → (k b v : ℕ) → k < n → b < m → v < 2
     → path_join least (paths_with 2 (inner m n rows priors) k b v) < top
 
 -- no coded bit is forced, from four data bits on

@@ -3,7 +3,7 @@
 ghost use Rattle.std.specs.Prelude.{◌≡◌, ℕ, ◌+◌, ◌*◌, ◌/◌, ◌%◌, ◌^◌, ◌<◌, ◌≤◌, min, length, slice_index};
 ghost use Rattle.trellises.specs.Priors.{penalties};
 ghost use Rattle.trellises.specs.Inner.{slot_of, inner};
-ghost use Rattle.trellises.specs.InnerLaws.{inner_lawful, inner_reaches};
+ghost use Rattle.trellises.specs.InnerLaws.{InnerSizes, inner_lawful, inner_reaches};
 
 use super::rows::add_row;
 use super::slots::slot_table;
@@ -19,7 +19,7 @@ pub struct Inner<'a, 'b> {
     pub priors: &'b [i16],
     // An array, of which the first 2 ^ m entries count: there is no heap, and m is known only as it runs.
     slots: [u8; 256],
-    ghost sizes: { (1 ≤ m) × (m ≤ 8) × (1 ≤ n) × (n ≤ 16384) },
+    ghost sizes: { InnerSizes m n },
     ghost there: { (n * 2 ^ m ≤ length rows.now) × (n * m ≤ length priors.now) },
     ghost table: { (w : ℕ) → w < 2 ^ m → slice_index slots w ≡ slot_of 0 w m },
 }
@@ -27,7 +27,7 @@ pub struct Inner<'a, 'b> {
 impl<'a, 'b> Inner<'a, 'b> {
     /// The trellis of these rows and priors.
     pub fn new(m: usize, n: usize, rows: &'a [u8], priors: &'b [i16]) -> Inner<'a, 'b>
-        requires sizes { (1 ≤ m) × (m ≤ 8) × (1 ≤ n) × (n ≤ 16384) }
+        requires sizes { InnerSizes m n }
         requires there { (n * 2 ^ m ≤ length rows.now) × (n * m ≤ length priors.now) }
         ensures numbers { (result.m ≡ m) × (result.n ≡ n) }
         ensures tables { (result.rows.now ≡ rows.now) × (result.priors.now ≡ priors.now) }
@@ -78,6 +78,7 @@ impl<'a, 'b> Inner<'a, 'b> {
     }
 
     /// The slot of a word out of a state; out of state 1 it mirrors that out of state 0.
+    #[tactic(auto, using(crate::proofs::SlotLaws::slot_low, crate::proofs::SlotLaws::mirrored))]
     fn slot(&self, from: usize, word: usize) -> usize
         requires { (from < 2) × (word < 2 ^ self.now.m) }
         ensures { result ≡ slot_of from word self.now.m }
@@ -159,6 +160,7 @@ impl<'a, 'b> Trellis for Inner<'a, 'b> {
         (k < self.n).then_some(2 * self.size())
     }
 
+    #[tactic(auto, using(crate::proofs::SlotLaws::slot_low, crate::proofs::InnerEdges::inner_past, crate::proofs::InnerEdges::inner_beyond, crate::proofs::InnerEdges::inner_made))]
     fn edge(&self, k: usize, i: usize) -> Option<Edge> {
         let size = self.size();
         if k >= self.n || i >= 2 * size {
@@ -175,6 +177,7 @@ impl<'a, 'b> Trellis for Inner<'a, 'b> {
         })
     }
 
+    #[tactic(auto, using(crate::specs::Bounds::penalties_low, crate::proofs::SlotLaws::slot_low))]
     fn costs(&self, k: usize, out: &mut [u32; 512]) {
         if k < self.n {
             word_penalties(self.word_priors(k), out);

@@ -130,6 +130,7 @@ impl<'a> Trellis for Outer<'a> {
         })
     }
 
+    #[tactic(auto, using(crate::specs::Bounds::penalty_low))]
     fn costs(&self, k: usize, out: &mut [u32; 512]) {
         if k < self.n {
             let first = either(self.priors[2 * k]);

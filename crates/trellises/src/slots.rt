@@ -23,6 +23,7 @@ fn double(slots: &mut [u8; 256], size: usize)
 }
 
 /// The slot of each word of `m` bits out of state 0.
+#[tactic(auto, using(crate::proofs::SlotLaws::slot_low))]
 pub(crate) fn slot_table(m: usize) -> [u8; 256]
     requires { m ≤ 8 }
     ensures { (w : ℕ) → w < 2 ^ m → slice_index result w ≡ slot_of 0 w m }

@@ -42,6 +42,7 @@ fn double(out: &mut [u32; 512], size: usize, zero: u32, one: u32)
 }
 
 /// The penalties of every word: first those of the word of zeros, then one sum for each other word.
+#[tactic(auto, using(crate::specs::Bounds::penalties_low))]
 pub(crate) fn word_penalties(priors: &[i16], out: &mut [u32; 512])
     requires { length priors.now ≤ 8 }
     ensures { (w : ℕ) → w < 2 ^ length priors.now → slice_index out.new w ≡ penalties priors.now 0 w (length priors.now) }

@@ -2,7 +2,6 @@
 use Rattle.std.proofs.Common.{◌≡◌, ◌+◌, ℕ, List, ℤ, get_or, pos, length, zero-add, arith, rules, w16, SFits, to_z, of_z}
 use Rattle.std.proofs.lemmas.Int.{to_z-of_z}
 use Rattle.trellises.specs.Priors.{penalty}
-use Rattle.trellises.specs.Bounds.{penalties_low}
 use Rattle.trellises.proofs.WordPenalties.{penalties_set, penalties_doubled}
 use Rattle.trellises.proofs.words.word_penalties.Goals as goal
 
@@ -17,9 +16,6 @@ double-requires-clause-paid c w h =
     let nil = by_prior priors c.loop-j.j c.penalty.result 0 (search rules) c.penalty.ensures in
     let one = by_prior priors c.loop-j.j c.penalty-in-loop-j.result 1 (search rules) c.penalty-in-loop-j.ensures in
     omega (arith, c.loop-j.invariant w (omega arith), penalties_set priors 0 c.loop-j.j w (omega arith) (length priors) (omega arith))
-
-pub double-requires-clause-low : goal.double-requires-clause-low
-double-requires-clause-low c w h = omega (arith, c.loop-j.invariant w (omega arith), penalties_low c.args.priors.now 0 w (length c.args.priors.now))
 
 pub loop-j-preserved : goal.loop-j-preserved
 loop-j-preserved c =

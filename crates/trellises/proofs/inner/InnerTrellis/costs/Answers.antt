@@ -1,8 +1,6 @@
 -- Penalties and row make the costs of the stage.
 use Rattle.std.proofs.Common.{◌≡◌, ℕ, ◌*◌, ◌^◌, ◌<◌, get_or, ◌∙◌, sym, subst, arith}
 use Rattle.trellises.specs.Priors.{penalties}
-use Rattle.trellises.specs.Bounds.{penalties_low}
-use Rattle.trellises.proofs.SlotLaws.{slot_low}
 use Rattle.trellises.proofs.InnerEdges.{inner_laid}
 use Rattle.trellises.proofs.inner.InnerTrellis.costs.Goals as goal
 use Rattle.trellises.proofs.inner.InnerTrellis.costs.Goals.{After-word_penalties}
@@ -10,14 +8,6 @@ use Rattle.trellises.proofs.inner.InnerTrellis.costs.Goals.{After-word_penalties
 -- what each word pays by the priors of its bits
 paid : (c : After-word_penalties) (w : ℕ) → w < 2 ^ c.args.self.now.m → get_or c.word_penalties.new.out w 0 ≡ penalties c.args.self.now.priors.now (c.args.k * c.args.self.now.m) w c.args.self.now.m
 paid c w h = c.word_penalties.ensures w (subst (λ n. w < 2 ^ n) (sym c.word_priors.ensures.len) h) ∙ c.word_priors.ensures.value w
-
-pub add_row-requires-clause-within : goal.add_row-requires-clause-within
-add_row-requires-clause-within c w h = omega (arith, c.word_slots.ensures.value w (omega arith), slot_low 0 w c.args.self.now.m (omega arith))
-
-pub add_row-requires-clause-low : goal.add_row-requires-clause-low
-add_row-requires-clause-low c w h =
-    let t = c.args.self.now in
-    omega (arith, paid (goal.at.add_row-requires-clause-low c).After-word_penalties w (omega arith), penalties_low t.priors.now (c.args.k * t.m) w t.m)
 
 pub returns-then-k-self-clause-laid : goal.returns-then-k-self-clause-laid
 returns-then-k-self-clause-laid c =

@@ -3,7 +3,6 @@ use Rattle.std.proofs.Common.{◌≡◌, ℕ, ◌+◌, ◌*◌, ◌/◌, ◌%◌
 use Rattle.std.proofs.lemmas.Int.{to_z-of_z}
 use Rattle.std.proofs.lemmas.List.{get_or_append_left}
 use Rattle.trellises.specs.Priors.{penalty}
-use Rattle.trellises.specs.Bounds.{penalty_low}
 use Rattle.trellises.specs.Outer.{first_coded, second_coded, outer_cost}
 use Rattle.trellises.proofs.OuterEdges.{outer_laid}
 use Rattle.trellises.proofs.outer.OuterTrellis.costs.Goals as goal
@@ -21,11 +20,6 @@ paid c =
     let first = read c.either-first.result (get_or priors (2 * c.args.k) (pos 0)) (search rules) c.either-first.ensures c.coded-a.result.0 (first_coded (c.loop-i.i / 2) (c.loop-i.i % 2)) c.coded-a.ensures.first (omega arith) in
     let second = read c.either-second.result (get_or priors (2 * c.args.k + 1) (pos 0)) (search rules) c.either-second.ensures c.coded-a.result.1 (second_coded (c.loop-i.i / 2) (c.loop-i.i % 2)) c.coded-a.ensures.second (omega arith) in
     omega arith
-
-pub overflow_add-cost : goal.overflow_add-cost
-overflow_add-cost c =
-    let priors = c.args.self.now.priors.now in
-    omega (arith, paid c, penalty_low (get_or priors (2 * c.args.k) (pos 0)) (first_coded (c.loop-i.i / 2) (c.loop-i.i % 2)), penalty_low (get_or priors (2 * c.args.k + 1) (pos 0)) (second_coded (c.loop-i.i / 2) (c.loop-i.i % 2)))
 
 pub loop-i-preserved : goal.loop-i-preserved
 loop-i-preserved c =
