@@ -49,26 +49,12 @@ judged kind number sum r four_of head unchecked unheaded l esum efour echecks eh
     let h : not unheaded ≡ bytes_eq (take 4 r) (head_of kind number) = ap not eheads ∙ not_not _ ∙ ap (λ xs. bytes_eq xs head) (sym (four r l)) ∙ ap (bytes_eq (take 4 r)) ehead in
     rw (c, h) refl
 
-zero_off : (n : ℕ) → n - 0 ≡ n
-zero_off n = omega arith
-
 -- after k rows: a list of the records that are left, each of `size` bytes, and the question that is left
 pub record RowsLeft (v : PlanValues) (f : List ℕ) (k size : ℕ) (rest : List ℕ) : Type 0 where
   pub width : size ≡ slots v + 8
   pub within : k ≤ symbols v
   pub left : rest ≡ take ((symbols v - k) * (slots v + 8)) (drop (row_at v k) f)
   pub asked : rows_fault v f k (symbols v - k) ≡ rows_fault v f 0 (symbols v)
-
-pub all_left : (v : PlanValues) (f : List ℕ) (w end size : ℕ) (rest : List ℕ) → w ≡ slots v → size ≡ w + 8 → end ≡ rows_end v → rest ≡ take (end - 16) (drop 16 f) → RowsLeft v f 0 size rest
-all_left v f w end size rest ew es ee er =
-    let z : row_at v 0 ≡ 16 = let y = zero-mul (slots v + 8) in omega arith in
-    let n : end - 16 ≡ symbols v * (slots v + 8) = omega arith in
-    record {
-      width = es ∙ ap (λ x. x + 8) ew;
-      within = omega arith;
-      left = er ∙ ap (λ x. take x (drop 16 f)) n ∙ ap (λ x. take (symbols v * (slots v + 8)) (drop x f)) (sym z) ∙ ap (λ x. take (x * (slots v + 8)) (drop (row_at v 0) f)) (sym (zero_off (symbols v)));
-      asked = ap (rows_fault v f 0) (zero_off (symbols v));
-    }
 
 -- the first record of those that are left
 pub record FirstLeft (v : PlanValues) (f : List ℕ) (k : ℕ) (x more : List ℕ) : Type 0 where

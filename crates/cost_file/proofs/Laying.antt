@@ -18,10 +18,7 @@ use Rattle.cost_file.proofs.Canonical.{row_within}
 div_one : (x : ℕ) → x / 1 ≡ x
 div_one x = omega arith
 
--- a number in two and in four bytes, as the code takes it apart
-pub two_bytes : (x : ℕ) → bytes_of 2 x ≡ x / 256 % 256 ∷ x % 256 ∷ []
-two_bytes x = rw (div_one x) refl
-
+-- a number in four bytes, as the code takes it apart
 pub four_bytes : (x : ℕ) → bytes_of 4 x ≡ x / 16777216 % 256 ∷ x / 65536 % 256 ∷ x / 256 % 256 ∷ x % 256 ∷ []
 four_bytes x = rw (div_one x) refl
 

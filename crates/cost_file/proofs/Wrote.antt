@@ -1,27 +1,13 @@
 -- The writer's answers: each refusal, and what it promises of a file that it wrote.
-use Rattle.std.proofs.Common.{◌≡◌, ℕ, ◌+◌, ◌<◌, ◌≤◌, Bool, true, false, cond, List, length, take, drop, is_some, Some, None, Option, sym, refl, ap, ◌∙◌, subst, arith, Bor}
+use Rattle.std.proofs.Common.{◌≡◌, ℕ, ◌+◌, ◌≤◌, Bool, true, cond, List, length, take, drop, is_some, Some, None, Option, sym, refl, ap, ◌∙◌, subst, arith, Bor}
 use Rattle.std.specs.Option.{option_map}
-use Rattle.std.proofs.lemmas.Bool.{le-leb, lt-leb}
+use Rattle.std.proofs.lemmas.Bool.{le-leb}
 use Rattle.plans.specs.declared.values.PlanValues.{PlanValues}
-use Rattle.plans.specs.declared.refusals.Refusal.{Refusal}
-use Rattle.plans.specs.declared.refusals.Refusal.TheVariants.{Room, Lengths}
 use Rattle.plans.specs.Plans.{plan_refusal}
 use Rattle.cost_file.specs.Files.{Kept, written, rows_end, lengths_fit, write_refusal}
 use Rattle.cost_file.specs.Promises.{kept, ReadsBack, Laid, Wrote}
 use Rattle.cost_file.proofs.Laying.{file_length}
 use Rattle.cost_file.proofs.Written.{reads_back}
-
-pub refused_plan : (c : Kept) (room : ℕ) (e : Refusal) → plan_refusal c.plan ≡ Some e → write_refusal c room ≡ Some e
-unfolding write_refusal
-refused_plan c room e h = rw (h, write_refusal) refl
-
-pub refused_lengths : (c : Kept) (room : ℕ) → plan_refusal c.plan ≡ None → lengths_fit c ≡ false → write_refusal c room ≡ Some Lengths
-unfolding write_refusal
-refused_lengths c room h l = rw (h, write_refusal, l) refl
-
-pub refused_room : (c : Kept) (room : ℕ) → plan_refusal c.plan ≡ None → lengths_fit c ≡ true → room < length (written c) → write_refusal c room ≡ Some Room
-unfolding write_refusal
-refused_room c room h l s = rw (h, write_refusal, l, lt-leb (length (written c)) room s) refl
 
 not_refused : (c : Kept) (room : ℕ) → plan_refusal c.plan ≡ None → lengths_fit c ≡ true → length (written c) ≤ room → write_refusal c room ≡ None
 unfolding write_refusal

@@ -16,6 +16,7 @@ pub(crate) fn row_at(plan: Plan, k: usize) -> usize
 }
 
 /// The length of a file that has no payload.
+#[tactic(auto, using(crate::proofs::Sizes::plan_sizes))]
 pub(crate) fn rows_end(plan: Plan) -> usize
     ensures value { result ≡ rows_end plan.values }
     ensures bound { result + plan.values.bytes + 8 ≤ 600000 }

@@ -9,6 +9,7 @@ use crate::reader::CostFile;
 use crate::walk::{DueFile, accept_within, judge_first, judge_length, read_plan};
 
 /// Opens a file whose payload may have up to `most` bytes, or answers its first fault.
+#[tactic(auto, unfolding(crate::specs::Files::file_fault))]
 pub fn open_within<'f>(file: &'f [u8], most: u32) -> Result<CostFile<'f>, Fault>
     ensures cases { elim result [
       | Ok x ↦ Opened most file.now x

@@ -31,6 +31,7 @@ impl<'f> CostFile<'f> {
     }
 
     // The record of this number, or none past the last.
+    #[tactic(auto, using(crate::proofs::Handed::inside, crate::proofs::Handed::row_inside, crate::proofs::Handed::payload_inside))]
     fn record_at(&self, number: usize) -> Option<Record<'f>>
         ensures value { option_map part_of result ≡ part_at self.now.file.now number }
         ensures plan { Numbered self.now.file.now result }

@@ -34,6 +34,7 @@ pub(crate) fn judge_first(file: &[u8]) -> Result<(), Fault>
 }
 
 /// The numbers in the plan's record.
+#[tactic(auto, unfolding(crate::specs::Files::plan_in))]
 pub(crate) fn read_plan(file: &[u8]) -> PlanValues
     requires { 16 ≤ length file.now }
     ensures value { result ≡ plan_in file.now }
@@ -82,6 +83,7 @@ impl<'f> DueFile<'f> {
     }
 
     /// Judges the records of all rows in their order.
+    #[tactic(auto, using(crate::proofs::Judged::first_left, crate::proofs::Judged::none_left, crate::proofs::Sizes::plan_sizes))]
     pub(crate) fn judge_rows(&self) -> Result<(), Fault>
         ensures value { result_err result ≡ rows_fault self.now.plan.values self.now.file.now 0 (symbols self.now.plan.values) }
     {

@@ -67,6 +67,7 @@ impl<'a> Contents<'a> {
     }
 
     // How many bytes the file has.
+    #[tactic(auto, using(crate::proofs::Wrote::due_written))]
     fn size(&self) -> usize
         ensures value { result ≡ length (written (kept_of self.now)) }
     {
@@ -109,6 +110,7 @@ impl<'a> Contents<'a> {
 
 /// Writes the file of a plan, of the slot costs of all its symbols and perhaps of the payload into
 /// the front of `out`, and answers how many bytes it has.
+#[tactic(auto, unfolding(crate::specs::Files::write_refusal))]
 pub fn write(
     values: PlanValues,
     rows: &[u8],

@@ -1,5 +1,6 @@
 -- A symbol's slot, one accumulated bit after another, and a block's slots, one symbol after another.
-use Rattle.std.proofs.Common.{◌≡◌, ℕ, suc, ◌+◌, ◌*◌, ◌^◌, ◌<◌, ◌≤◌, Bool, List, [], ◌∷◌, ◌++◌, map, length, take, set, sym, refl, ap, ◌∙◌, subst, le_refl, suc-mul, mul-le-mul, arith}
+use Rattle.std.proofs.Common.{◌≡◌, ℕ, suc, ◌+◌, ◌*◌, ◌^◌, ◌<◌, ◌≤◌, Bool, List, [], ◌∷◌, ◌++◌, map, length, take, set, sym, refl, ap, ◌∙◌, subst, le_refl, suc-mul, mul-le-mul, arith, pow_mono, true, false}
+use mir.Val.{bool_byte}
 use Rattle.std.specs.List.{range_with_len}
 use Rattle.std.proofs.lemmas.List.FromFn.{map-range_with_len_more, length-map-range_with_len}
 use Rattle.std.proofs.lemmas.List.{take_more_set}
@@ -10,9 +11,6 @@ use Rattle.polynomial.proofs.Binary.{value_append, value_lt}
 abbrev pub read : (ℕ → Bool) → ℕ → ℕ → ℕ
 read f from n = value (map f (range_with_len from n))
 
-pub read_none : (f : ℕ → Bool) (from : ℕ) → read f from 0 ≡ 0
-read_none f from = refl
-
 pub read_more : (f : ℕ → Bool) (from n : ℕ) → read f from (n + 1) ≡ 2 * read f from n + bit (f (from + n))
 read_more f from n =
     ap value (map-range_with_len_more f from n (from + n) refl) ∙ value_append (map f (range_with_len from n)) (f (from + n) ∷ []) ∙ last (value (map f (range_with_len from n))) (f (from + n))
@@ -22,6 +20,22 @@ read_more f from n =
 
 pub read_lt : (f : ℕ → Bool) (from n : ℕ) → read f from n < 2 ^ n
 read_lt f from n = subst (λ k. read f from n < 2 ^ k) (length-map-range_with_len f from n) (value_lt (map f (range_with_len from n)))
+
+-- a symbol's number stays below 256
+pub read_byte : (f : ℕ → Bool) (from i : ℕ) → i ≤ 8 → read f from i < 256
+read_byte f from i h =
+    let r = read_lt f from i in
+    let p : 2 ^ i ≤ 2 ^ 8 = pow_mono h in
+    omega arith
+
+-- a bit as the code adds it
+pub bit_byte : (b : Bool) → bool_byte b ≡ bit b
+bit_byte true = refl
+bit_byte false = refl
+
+pub byte_small : (b : Bool) → bool_byte b ≤ 1
+byte_small true = omega arith
+byte_small false = omega arith
 
 -- place k of n groups of m
 pub inside : (k n m i : ℕ) → k < n → i < m → k * m + i < n * m

@@ -30,6 +30,7 @@ impl<'a> Block<'a> {
     }
 
     // The slot of symbol k, and what the accumulator holds after it.
+    #[tactic(auto, using(crate::proofs::Symbols::read_byte, crate::proofs::Symbols::read_more, crate::proofs::Symbols::bit_byte, crate::proofs::Symbols::byte_small, crate::proofs::Symbols::inside), unfolding(crate::specs::Encoding::slot))]
     fn slot_of(&self, k: usize, held: bool) -> (u8, bool)
         requires inside { k < symbols self.now.plan.values }
         requires before { held ≡ held_before (sent_bit self.now) (k * self.now.plan.values.bits) }
@@ -48,6 +49,7 @@ impl<'a> Block<'a> {
     }
 
     // Lays the slots of the block, one in each place of `out`.
+    #[tactic(auto, using(crate::proofs::Symbols::filled_more), unfolding(crate::specs::Encoding::encoded))]
     fn lay(&self, out: &mut [u8])
         requires room { length out.old ≡ symbols self.now.plan.values }
         ensures slots { out.new ≡ encoded self.now.plan.values self.now.payload.bytes.now }
@@ -63,6 +65,7 @@ impl<'a> Block<'a> {
 
 /// Encodes a payload into the front of `out`, a byte for each symbol: the number of its slot.
 /// The answer is the number of symbols. A refusal leaves `out` alone.
+#[tactic(auto, unfolding(crate::specs::Encoding::encode_refusal))]
 pub fn encode(values: PlanValues, payload: &[u8], out: &mut [u8]) -> Result<usize, Refusal>
     ensures cases { Encodes values payload.now out.old out.new result }
 {

@@ -7,6 +7,7 @@ ghost use Rattle.encoder.specs.Clean.{clean_cost, Lays};
 use plans::{Plan, PlanValues, Refusal};
 
 // What one slot of a clean block costs.
+#[tactic(auto, using(std::proofs::lemmas::Nat::div_below))]
 fn cost_at(sent: &[u8], m: usize, cost: u8, i: usize) -> u8
     requires some { 0 < m }
     requires inside { i < length sent.now * m }
@@ -20,6 +21,7 @@ fn cost_at(sent: &[u8], m: usize, cost: u8, i: usize) -> u8
 }
 
 // Lays the costs of all slots, m to a symbol, one in each place of `rows`.
+#[tactic(auto, using(crate::proofs::Symbols::filled_more))]
 fn fill(sent: &[u8], m: usize, cost: u8, rows: &mut [u8])
     requires some { 0 < m }
     requires sized { length rows.old ≡ length sent.now * m }
@@ -33,6 +35,7 @@ fn fill(sent: &[u8], m: usize, cost: u8, rows: &mut [u8])
 /// Lays the slot costs of a block without noise into the front of `rows`, a row of bytes for each
 /// symbol: 0 at the slot that was sent, `cost` at every other. The answer is the number of bytes.
 /// A refusal leaves `rows` alone.
+#[tactic(auto, unfolding(crate::specs::Clean::clean_refusal, crate::specs::Clean::clean_rows))]
 pub fn lay_clean(
     values: PlanValues,
     sent: &[u8],

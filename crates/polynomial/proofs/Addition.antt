@@ -8,10 +8,6 @@ xor_assoc true true false = refl
 xor_assoc true false z = refl
 xor_assoc false y z = refl
 
-pub xor_false : (x : Bool) → xor x false ≡ x
-xor_false true = refl
-xor_false false = refl
-
 pub xor_comm : (x y : Bool) → xor x y ≡ xor y x
 xor_comm true true = refl
 xor_comm true false = refl

@@ -1,38 +1,27 @@
 -- A rule of a table, proved at all of its entries by one test that is computed entry after entry; here, that it lists checks.
-use Rattle.std.proofs.Common.{◌≡◌, ℕ, zero, suc, ◌+◌, ◌<◌, Bool, true, false, T, eqb, List, [], ◌∷◌, length, get_or, sym, ◌∙◌, subst, add-zero, add-suc, suc-add, zero-add, arith, eqb→eq}
+use Rattle.std.proofs.Common.{◌≡◌, ℕ, suc, zero, ◌+◌, ◌<◌, Bool, true, ◌&&◌, eqb, List, [], ◌∷◌, length, get_or, sym, ◌∙◌, subst, add-zero, add-suc, suc-add, zero-add, arith}
+use Rattle.std.proofs.lemmas.Bool.{and_parts, eqb-true}
 use Rattle.polynomial.specs.Bytes.{check_of, ListsChecks}
-
-abbrev pub both : Bool → Bool → Bool
-both true b = b
-both false b = false
-
-both_left : (a b : Bool) → T (both a b) → T a
-both_left true b t = tt
-both_left false b t = t
-
-both_right : (a b : Bool) → T (both a b) → T b
-both_right true b t = t
-both_right false b t = absurd t
 
 -- the test f passes at each entry of the table and its place, counted from i
 abbrev pub every : (ℕ → ℕ → Bool) → ℕ → List ℕ → Bool
 every f i [] = true
-every f i (x ∷ xs) = both (f i x) (every f (suc i) xs)
+every f i (x ∷ xs) = f i x && every f (suc i) xs
 
-from : (f : ℕ → ℕ → Bool) (xs : List ℕ) (i : ℕ) → T (every f i xs) → (k : ℕ) → k < length xs → T (f (i + k) (get_or xs k 0))
+from : (f : ℕ → ℕ → Bool) (xs : List ℕ) (i : ℕ) → every f i xs ≡ true → (k : ℕ) → k < length xs → f (i + k) (get_or xs k 0) ≡ true
 from f [] i t k h = absurd (omega arith)
-from f (x ∷ xs) i t zero h = subst (λ (m : ℕ). T (f m x)) (sym (add-zero i)) (both_left (f i x) (every f (suc i) xs) t)
+from f (x ∷ xs) i t zero h = subst (λ (m : ℕ). f m x ≡ true) (sym (add-zero i)) (and_parts (f i x) (every f (suc i) xs) t).0
 from f (x ∷ xs) i t (suc k) h =
-    subst (λ (m : ℕ). T (f m (get_or xs k 0))) (suc-add i k ∙ sym (add-suc i k))
-    (from f xs (suc i) (both_right (f i x) (every f (suc i) xs) t) k (omega arith))
+    subst (λ (m : ℕ). f m (get_or xs k 0) ≡ true) (suc-add i k ∙ sym (add-suc i k))
+    (from f xs (suc i) (and_parts (f i x) (every f (suc i) xs) t).1 k (omega arith))
 
 -- so it passes at the entry k
-pub at : (f : ℕ → ℕ → Bool) (xs : List ℕ) → T (every f 0 xs) → (k : ℕ) → k < length xs → T (f k (get_or xs k 0))
-at f xs t k h = subst (λ (m : ℕ). T (f m (get_or xs k 0))) (zero-add k) (from f xs 0 t k h)
+pub at : (f : ℕ → ℕ → Bool) (xs : List ℕ) → every f 0 xs ≡ true → (k : ℕ) → k < length xs → f k (get_or xs k 0) ≡ true
+at f xs t k h = subst (λ (m : ℕ). f m (get_or xs k 0) ≡ true) (zero-add k) (from f xs 0 t k h)
 
 -- the entry x at the place k is the check of the byte k
 abbrev pub right : ℕ → ℕ → Bool
 right k x = eqb x (check_of (k ∷ []))
 
-pub listed : (table : List ℕ) → length table ≡ 256 → T (every right 0 table) → ListsChecks table
-listed table l t = record { entry = λ byte h. eqb→eq (get_or table byte 0) (check_of (byte ∷ [])) (at right table t byte (omega arith)) }
+pub listed : (table : List ℕ) → length table ≡ 256 → every right 0 table ≡ true → ListsChecks table
+listed table l t = record { entry = λ byte h. eqb-true (get_or table byte 0) (check_of (byte ∷ [])) (at right table t byte (omega arith)) }

@@ -16,7 +16,7 @@ fn alone(table: &[u32; 256], byte: u8) -> u32
     requires { ListsChecks table.now }
     ensures { result ≡ check_of (byte ∷ []) }
 {
-    table[byte as usize]
+    table[usize::from(byte)]
 }
 
 /// The check of bytes with one byte more behind them, from the check `r` of those bytes.
@@ -29,20 +29,22 @@ fn fed(r: u32, byte: u8) -> u32
 }
 
 /// The check of a string of bytes: the remainder of its polynomial times z^22, as a number of 22 binary digits.
+#[tactic(auto, using(crate::proofs::Checks::check_small))]
 pub fn check(bytes: &[u8]) -> u32
     ensures value { result ≡ check_of bytes.now }
     ensures meaning { Checks bytes.now result }
     ensures division { Division }
 {
     let mut r = 0;
-    for byte in bytes {
-        r = fed(r, *byte);
+    for &byte in bytes {
+        r = fed(r, byte);
     }
     r
 }
 
 /// The remainder of a polynomial with one coefficient more behind it, from its remainder `r`, both as numbers of 22 binary digits.
 /// No coefficients leave 0.
+#[tactic(auto, using(crate::proofs::OneMore::high_small))]
 pub fn with_coefficient(r: u32, one: bool) -> u32
     requires { r < 2 ^ 22 }
     ensures value { (p : List Bool) → r ≡ value (remainder p) → result ≡ value (remainder (p ++ one ∷ [])) }

@@ -25,4 +25,4 @@ returns c = more c.args.r c.args.byte c.alone.result (search rules) c.alone.ensu
 -- the table's rule: one test, computed at each of its 256 entries
 pub alone-requires : goal.alone-requires
 unfolding check_of remainder
-alone-requires c = listed _ refl tt
+alone-requires c = listed _ refl refl

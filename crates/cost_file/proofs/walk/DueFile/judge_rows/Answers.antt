@@ -1,18 +1,8 @@
-use Rattle.std.proofs.Common.{◌+◌, ap, ◌∙◌, arith}
+use Rattle.std.proofs.Common.{◌+◌, ap, ◌∙◌}
 use Rattle.std.proofs.lemmas.Result.{err_from_is_err_and}
 use Rattle.cost_file.specs.Records.{record_fault}
-use Rattle.cost_file.proofs.Judged.{first_left, row_passes, row_fails, none_left}
-use Rattle.cost_file.proofs.Sizes.{plan_sizes}
+use Rattle.cost_file.proofs.Judged.{row_passes, row_fails}
 use Rattle.cost_file.proofs.walk.DueFile.judge_rows.Goals as goal
-
-pub overflow_cast-k : goal.overflow_cast-k
-overflow_cast-k c =
-    let h = c.in-Some.ensures.steps in
-    let one = first_left _ _ _ _ _ _ _ c.loop-k.invariant h.0.1.0 h.0.1.1 in
-    let inside = one.inside in
-    let z = plan_sizes c.args.self.now.plan in
-    let few = z.symbols_high in
-    omega (arith, h.1)
 
 pub loop-k-preserved : goal.loop-k-preserved
 loop-k-preserved c =
@@ -26,6 +16,3 @@ returns-in_err-judge c =
     let p = err_from_is_err_and c.from_residual.result c.from_residual.ensures.1 in
     rw (p.1, p.2)
     record { value = row_fails _ _ _ _ _ _ _ _ c.loop-k.invariant h.0.1.0 h.0.1.1 (c.in_err-judge.ensures.value ∙ ap (λ n. record_fault 2 (n + 1) c.in-Some.record.now) h.1) }
-
-pub returns : goal.returns
-returns c = record { value = none_left _ _ _ _ _ c.args.self.now.long c.loop-k.invariant c.in-None.ensures.steps.0.1.0 }
