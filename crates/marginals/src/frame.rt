@@ -3,8 +3,7 @@
 ghost use Rattle.std.specs.Prelude.{◌≡◌, ℕ, ◌+◌, ◌*◌, ◌^◌, ◌<◌, ◌≤◌, length, slice_index_or};
 ghost use Rattle.marginals.specs.Words.{entry_of};
 
-use super::halves::word_count;
-use paths::Weights;
+use paths::{Weights, word_count};
 
 // One row of a frame, for a state before the stage to which `x` leads.
 fn lay_row<W: Weights>(x: W::Value, after: &[W::Value], row: &mut [W::Value])

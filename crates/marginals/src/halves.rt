@@ -6,15 +6,7 @@ ghost use Rattle.marginals.specs.Halves.{held, lower, upper};
 ghost use Rattle.marginals.specs.Words.{neither};
 
 use super::room::ByBit;
-use paths::Weights;
-
-// How many words have so many bits.
-pub(crate) fn word_count(bits: usize) -> usize
-    requires { bits ≤ 8 }
-    ensures { result ≡ 2 ^ bits }
-{
-    1 << bits
-}
+use paths::{Weights, word_count};
 
 // Takes the words that differ in bit `b` alone together, and joins all those without and all those with it.
 fn halve<W: Weights>(b: usize, words: &mut [W::Value; 256]) -> ByBit<W::Value>
@@ -45,7 +37,8 @@ pub(crate) fn fold<W: Weights>(
     ensures zero { (b : ℕ) → b < bits → (slice_index_or found.new b (neither W.ops)).zero ≡ lower W.ops (held W.ops words.old) bits b }
     ensures one { (b : ℕ) → b < bits → (slice_index_or found.new b (neither W.ops)).one ≡ upper W.ops (held W.ops words.old) bits b }
 {
-    // The range is of bits and not of places: each turn folds the words by its bit.
+    // The range is of bits, from the highest down: each turn folds the words by its bit. Their number stands beside the array,
+    // since a part of an array in a struct comes back from a call under a name that no proof can cite (tried).
     for b in (0..bits).rev() {
         found[b] = halve::<W>(b, words);
     }

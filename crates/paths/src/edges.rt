@@ -1,4 +1,6 @@
-//! An edge of a trellis.
+//! An edge of a trellis, and the words that edges carry.
+
+ghost use Rattle.std.specs.Prelude.{◌≡◌, ◌^◌, ◌≤◌};
 
 /// An edge leads from one state to another, carries a word of bits and costs something.
 #[derive(Clone, Copy, PartialEq, Eq, Debug)]
@@ -7,4 +9,12 @@ pub struct Edge {
     pub to: usize,
     pub word: u8,
     pub cost: u32,
+}
+
+/// How many words have so many bits.
+pub fn word_count(bits: usize) -> usize
+    requires { bits ≤ 8 }
+    ensures { result ≡ 2 ^ bits }
+{
+    1 << bits
 }

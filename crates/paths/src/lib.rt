@@ -10,7 +10,7 @@ mod stage;
 mod ties;
 mod trellis;
 
-pub use edges::Edge;
+pub use edges::{Edge, word_count};
 pub use laws::{
     bits_hold, columns_hold, groupings_hold, levels_hold, marginals_hold, paths_hold, products_hold,
 };

@@ -11,13 +11,13 @@ use super::keeping::CostKeeping;
 use marginals::{ByBit, Room, marginals};
 use paths::{Stage, Trellis};
 
-// The reliability of each of so many bits.
-fn tell<W: CostKeeping>(bits: usize, found: &[ByBit<u32>; 8], out: &mut [Option<i32>; 8])
-    requires few { bits ≤ 8 }
-    requires can { (b : ℕ) → b < bits → W.CanTell (slice_index_or found.now b (neither W.Weights.ops)).zero (slice_index_or found.now b (neither W.Weights.ops)).one }
-    ensures { (b : ℕ) → b < bits → slice_index_or out.new b None ≡ W.told (slice_index_or found.now b (neither W.Weights.ops)).zero (slice_index_or found.now b (neither W.Weights.ops)).one }
+// The reliability of each bit, from what its two costs leave.
+fn tell<W: CostKeeping>(found: &[ByBit<u32>], out: &mut [Option<i32>])
+    requires beside { length found.now ≡ length out.old }
+    requires can { (b : ℕ) → b < length found.now → W.CanTell (slice_index_or found.now b (neither W.Weights.ops)).zero (slice_index_or found.now b (neither W.Weights.ops)).one }
+    ensures { (b : ℕ) → b < length out.old → slice_index_or out.new b None ≡ W.told (slice_index_or found.now b (neither W.Weights.ops)).zero (slice_index_or found.now b (neither W.Weights.ops)).one }
 {
-    for (b, told) in out[..bits].iter_mut().enumerate() {
+    for (b, told) in out.iter_mut().enumerate() {
         *told = W::reliability(found[b].zero, found[b].one);
     }
 }
@@ -40,5 +40,6 @@ pub fn stage_bits<T: Trellis, W: CostKeeping>(
     ensures sixteen { 1 ≤ T.reach → (2 * T.reach + 1) * T.ceiling < 32768 → (b : ℕ) → b < T.bits stage.now.trellis.now → Bounded 32767 (slice_index_or out.new b None) }
 {
     marginals::<T, W>(stage, front, back, room);
-    tell::<W>(stage.trellis.bits(), &room.bits, out);
+    let bits = stage.trellis.bits();
+    tell::<W>(&room.bits[..bits], &mut out[..bits]);
 }

@@ -7,8 +7,8 @@ ghost use Rattle.trellises.specs.InnerLaws.{InnerSizes, inner_lawful, inner_reac
 
 use super::rows::add_row;
 use super::slots::slot_table;
-use super::words::{word_count, word_penalties, word_penalty};
-use paths::{Edge, Trellis};
+use super::words::{word_penalties, word_penalty};
+use paths::{Edge, Trellis, word_count};
 
 /// `n` symbols of `m` interleaved bits: a row of slot costs for each symbol, and a prior for each bit.
 #[derive(Drop)]

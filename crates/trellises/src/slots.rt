@@ -3,7 +3,7 @@
 ghost use Rattle.std.specs.Prelude.{◌≡◌, ℕ, ◌+◌, ◌-◌, ◌*◌, ◌%◌, ◌^◌, ◌<◌, ◌≤◌, slice_index};
 ghost use Rattle.trellises.specs.Inner.{slot_of};
 
-use super::words::word_count;
+use paths::word_count;
 
 // Like `double` of words.rt in shape alone: one function for both would need a type of entries, a closure that makes two of
 // one, and a clause with a pair for every entry, where each now has two sums.

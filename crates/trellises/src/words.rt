@@ -4,14 +4,7 @@ ghost use Rattle.std.specs.Prelude.{◌≡◌, ℕ, ◌+◌, ◌^◌, ◌<◌, �
 ghost use Rattle.trellises.specs.Priors.{penalties};
 
 use super::priors::penalty;
-
-/// How many words of `bits` bits there are.
-pub(crate) fn word_count(bits: usize) -> usize
-    requires { bits ≤ 8 }
-    ensures { result ≡ 2 ^ bits }
-{
-    1 << bits
-}
+use paths::word_count;
 
 /// The penalties of the bits of one word, which has as many as there are priors.
 #[tactic(auto, using(crate::specs::Bounds::penalty_low, crate::specs::Bounds::penalties_low))]
