@@ -7,6 +7,7 @@ ghost use Rattle.std.specs.Prelude.{◌≡◌, false};
 
 use inner_pass::inner_pass;
 use outer_pass::outer_pass;
+use trellises::{Inner, Outer};
 use ways::Way;
 
 /// The inner extrinsics of n symbols of m bits; false, and nothing changed, where a size or a length does not fit.
@@ -35,7 +36,7 @@ pub extern "C" fn lochsaucer_inner(
     {
         return false;
     }
-    inner_pass(way, m, n, rows, priors, table, out);
+    inner_pass(way, &Inner::new(m, n, rows, priors), table, out);
     true
 }
 
@@ -68,6 +69,6 @@ pub extern "C" fn lochsaucer_outer(
     {
         return false;
     }
-    outer_pass(way, n, priors, table, out, found, decided);
+    outer_pass(way, &Outer::new(n, priors), table, out, found, decided);
     true
 }

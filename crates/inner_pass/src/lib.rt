@@ -27,32 +27,21 @@ fn lay(bits: &[Option<i32>; 8], priors: &[i16], out: &mut [i16])
     }
 }
 
-/// Works the inner pass of `n` symbols of `m` bits in the way that is named, and lays what is sent on about every interleaved
-/// bit into the front of `out`: the same numbers in every way. The work table is left in `table`.
-pub fn inner_pass(
-    way: Way,
-    m: usize,
-    n: usize,
-    rows: &[u8],
-    priors: &[i16],
-    table: &mut [u32],
-    out: &mut [i16],
-)
-    requires sizes { (1 ≤ m) × (m ≤ 8) × (1 ≤ n) × (n ≤ 16384) }
-    requires there { (n * 2 ^ m ≤ length rows.now) × (n * m ≤ length priors.now) }
-    requires room { (12 * n + 60 ≤ length table.old) × (n * m ≤ length out.old) }
-    ensures front { take (n * m) out.new ≡ inner_extrinsics m n rows.now priors.now }
-    ensures tail { drop (n * m) out.new ≡ drop (n * m) out.old }
-    ensures table { table.new ≡ work_table way 2 (inner m n rows.now priors.now) (length table.old) }
+/// Works the inner pass over a trellis in the way that is named, and lays what is sent on about every interleaved bit into the
+/// front of `out`: the same numbers in every way. The work table is left in `table`.
+pub fn inner_pass(way: Way, t: &Inner, table: &mut [u32], out: &mut [i16])
+    requires room { (12 * t.now.n + 60 ≤ length table.old) × (t.now.n * t.now.m ≤ length out.old) }
+    ensures front { take (t.now.n * t.now.m) out.new ≡ inner_extrinsics t.now.m t.now.n t.now.rows.now t.now.priors.now }
+    ensures tail { drop (t.now.n * t.now.m) out.new ≡ drop (t.now.n * t.now.m) out.old }
+    ensures table { table.new ≡ work_table way 2 (inner t.now.m t.now.n t.now.rows.now t.now.priors.now) (length table.old) }
 {
-    let t = Inner::new(m, n, rows, priors);
-    work(way, &t, table);
+    work(way, t, table);
     let mut room = Room::new(0);
     let mut bits = [None; 8];
     // The range is of stages: each has a part of the table, of the priors and of what is sent on.
-    for k in 0..n {
-        stage_reliabilities(way, &Stage::new(&t, k), table, &mut room, &mut bits);
-        let at = k * m;
-        lay(&bits, &priors[at..at + m], &mut out[at..at + m]);
+    for k in 0..t.n {
+        stage_reliabilities(way, &Stage::new(t, k), table, &mut room, &mut bits);
+        let at = k * t.m;
+        lay(&bits, &t.priors[at..at + t.m], &mut out[at..at + t.m]);
     }
 }

@@ -33,10 +33,6 @@ pub decided_is : (z o : ℕ) → decided_of (reliability z o) ≡ cond (eqb z to
 unfolding reliability
 decided_is z o = decided_cond (eqb z top) (eqb o top) (ltb o z) (pos z -ℤ pos o) (above z o)
 
--- the work of one trellis is that of the same trellis
-pub same_work : (way : Way) (m t : Meaning) (n : ℕ) (table : List ℕ) → table ≡ work_table way 4 m n → m ≡ t → table ≡ work_table way 4 t n
-same_work way m t n table is e = is ∙ ap (λ w. work_table way 4 w n) e
-
 -- a bit of one stage is that of the same stage of the same trellis
 pub of_same : (m t : Meaning) (i k b : ℕ) (r : Option ℤ) → r ≡ reliability_of 4 m i b → m ≡ t → i ≡ k → r ≡ reliability_of 4 t k b
 of_same m t i k b r is e same = is ∙ ap (λ w. reliability_of 4 w i b) e ∙ ap (λ k. reliability_of 4 t k b) same

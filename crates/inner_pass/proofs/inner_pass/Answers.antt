@@ -10,7 +10,7 @@ use Rattle.modulo.specs.Priors.{told_of}
 use Rattle.trellises.specs.declared.inner.Inner.{Inner}
 use Rattle.trellises.specs.Inner.{inner}
 use Rattle.extrinsics.specs.Extrinsics.{reliability_of}
-use Rattle.ways.specs.WorkTables.{work_entry, work_table}
+use Rattle.ways.specs.WorkTables.{work_entry}
 use Rattle.inner_pass.specs.InnerPass.{inner_extrinsic, inner_extrinsics}
 use Rattle.inner_pass.proofs.Blocks.{within, block_more}
 use Rattle.inner_pass.proofs.inner_pass.Goals as goal
@@ -31,39 +31,41 @@ pub stage_reliabilities-requires : goal.stage_reliabilities-requires
 stage_reliabilities-requires c =
     let t = c.new.result.trellis.now in
     let e = c.new.ensures.trellis in
-    let n : t.n ≡ c.args.n = ap (λ (t : Inner). t.n) e ∙ c.new-t.ensures.numbers.1 in
+    let n : t.n ≡ c.args.t.now.n = ap (λ (t : Inner). t.n) e in
     record {
       long = omega arith;
-      worked = λ p h. c.work.ensures.table p (omega arith) ∙ ap (λ m. work_entry c.args.way 2 m p) (sym (same_meaning t c.new-t.result e));
+      worked = λ p h. c.work.ensures.table p (omega arith) ∙ ap (λ m. work_entry c.args.way 2 m p) (sym (same_meaning t c.args.t.now e));
       cheap = omega arith;
       served = λ e. (omega arith, omega arith);
     }
 
 pub loop-k-preserved : goal.loop-k-preserved
 loop-k-preserved c =
-    let m = c.args.m in
+    let t = c.args.t.now in
+    let m = t.m in
     let k = c.loop-k.k in
-    let h = within k c.args.n m c.loop-k-test.true in
-    let means = same_meaning c.new.result.trellis.now c.new-t.result c.new.ensures.trellis ∙ c.new-t.ensures.means in
-    let bits : c.new.result.trellis.now.m ≡ m = ap (λ (t : Inner). t.m) c.new.ensures.trellis ∙ c.new-t.ensures.numbers.0 in
+    let h = within k t.n m c.loop-k-test.true in
+    let means = same_meaning c.new.result.trellis.now t c.new.ensures.trellis in
+    let bits : c.new.result.trellis.now.m ≡ m = ap (λ (t : Inner). t.m) c.new.ensures.trellis in
     let block : length c.lay.new.out ≡ m = omega arith in
-    let told : ℕ → ℤ = λ b. told_of (get_or c.stage_reliabilities.new.out b None) (get_or (take (k * m + m - k * m) (drop (k * m) c.args.priors.now)) b (pos 0)) in
+    let told : ℕ → ℤ = λ b. told_of (get_or c.stage_reliabilities.new.out b None) (get_or (take (k * m + m - k * m) (drop (k * m) t.priors.now)) b (pos 0)) in
     record {
-      front = block_more (pos 0) (inner_extrinsic m c.args.n c.args.rows.now c.args.priors.now) told
+      front = block_more (pos 0) (inner_extrinsic m t.n t.rows.now t.priors.now) told
           k m _ c.loop-k.out c.lay.new.out (omega arith) block c.loop-k.invariant.front
           (λ b l. ap (λ xs. get_or xs b (pos 0)) c.lay.ensures ∙ get_or-map-range_with_len told 0 _ b b (pos 0) (omega arith) (omega arith))
-          (λ b l. placed m c.args.n c.args.rows.now c.args.priors.now _ k c.new.result.number b c.stage_reliabilities.new.out _ l means c.new.ensures.number (c.stage_reliabilities.ensures.told b (omega arith)) (part_entry (pos 0) c.args.priors.now (k * m) m b l));
-      tail = drop-put_mid (k * m) _ c.loop-k.out c.lay.new.out (c.args.n * m) (omega arith) (omega arith) (omega arith) ∙ c.loop-k.invariant.tail;
+          (λ b l. placed m t.n t.rows.now t.priors.now _ k c.new.result.number b c.stage_reliabilities.new.out _ l means c.new.ensures.number (c.stage_reliabilities.ensures.told b (omega arith)) (part_entry (pos 0) t.priors.now (k * m) m b l));
+      tail = drop-put_mid (k * m) _ c.loop-k.out c.lay.new.out (t.n * m) (omega arith) (omega arith) (omega arith) ∙ c.loop-k.invariant.tail;
     }
 
 pub returns : goal.returns
 unfolding inner_extrinsics
 returns c =
-    let e : c.loop-k.k ≡ c.args.n = omega arith in
-    let many = c.args.n * c.args.m in
+    let t = c.args.t.now in
+    let e : c.loop-k.k ≡ t.n = omega arith in
+    let many = t.n * t.m in
     record {
-      front = fill_by_all (inner_extrinsic c.args.m c.args.n c.args.rows.now c.args.priors.now) (take many c.loop-k.out) many (pos 0) (omega (arith, length-take many c.loop-k.out))
+      front = fill_by_all (inner_extrinsic t.m t.n t.rows.now t.priors.now) (take many c.loop-k.out) many (pos 0) (omega (arith, length-take many c.loop-k.out))
           (λ j h. get_or-take many c.loop-k.out j (pos 0) h ∙ c.loop-k.invariant.front j (rw e h));
       tail = c.loop-k.invariant.tail;
-      table = c.work.ensures.whole ∙ ap (λ t. work_table c.args.way 2 t (length c.args.table.now)) c.new-t.ensures.means;
+      table = c.work.ensures.whole;
     }

@@ -5,6 +5,6 @@ use Rattle.inner_pass.proofs.inner_pass.Given as goal
 
 abbrev pub invariant-loop-k : goal.invariant-loop-k
 invariant-loop-k l = record {
-  front : (j : ℕ) → j < l.k * l.m → get_or l.out j (pos 0) ≡ inner_extrinsic l.m l.n l.rows l.priors j;
-  tail : drop (l.n * l.m) l.out ≡ drop (l.n * l.m) l.initial.out;
+  front : (j : ℕ) → j < l.k * l.t.m → get_or l.out j (pos 0) ≡ inner_extrinsic l.t.m l.t.n l.t.rows.now l.t.priors.now j;
+  tail : drop (l.t.n * l.t.m) l.out ≡ drop (l.t.n * l.t.m) l.initial.out;
 }

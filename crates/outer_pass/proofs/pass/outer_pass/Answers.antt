@@ -4,17 +4,17 @@ use Rattle.trellises.specs.declared.outer.Outer.{Outer}
 use Rattle.ways.specs.WorkTables.{work_entry}
 use Rattle.outer_pass.specs.OuterPass.{outer_extrinsic, data_reliability, decision, outer_extrinsics, data_reliabilities, decisions}
 use Rattle.outer_pass.proofs.Fronts.{front_none, front_more, front_two, front_all}
-use Rattle.outer_pass.proofs.Stages.{same_work, same_meaning, of_same, decision_is, found_is, small, sent_is}
+use Rattle.outer_pass.proofs.Stages.{same_meaning, of_same, decision_is, found_is, small, sent_is}
 use Rattle.outer_pass.proofs.pass.outer_pass.Goals as goal
 
 pub stage_reliabilities-requires : goal.stage_reliabilities-requires
 stage_reliabilities-requires c =
     let t = c.new.result.trellis.now in
     let e = c.new.ensures.trellis in
-    let n : t.n ≡ c.args.n = ap (λ (t : Outer). t.n) e ∙ c.new-t.ensures.numbers in
+    let n : t.n ≡ c.args.t.now.n = ap (λ (t : Outer). t.n) e in
     record {
       long = omega arith;
-      worked = λ p h. c.work.ensures.table p (omega arith) ∙ ap (λ m. work_entry c.args.way 4 m p) (sym (same_meaning t c.new-t.result e));
+      worked = λ p h. c.work.ensures.table p (omega arith) ∙ ap (λ m. work_entry c.args.way 4 m p) (sym (same_meaning t c.args.t.now e));
       cheap = omega arith;
       served = λ e. (omega arith, omega arith);
     }
@@ -27,23 +27,23 @@ bounds-decided-k c = omega arith
 
 pub narrow-requires : goal.narrow-requires
 narrow-requires c =
-    small c.args.n c.args.priors.now c.loop-k.k _ c.requires.sizes c.loop-k-test.true
+    small c.args.t.now.n c.args.t.now.priors.now c.loop-k.k _ (c.requires.sizes, omega arith) c.loop-k-test.true
     (of_same _ _ _ c.loop-k.k 2 _ (c.stage_reliabilities.ensures.told 2 (omega arith))
-    (same_meaning c.new.result.trellis.now c.new-t.result c.new.ensures.trellis ∙ c.new-t.ensures.means) c.new.ensures.number)
+    (same_meaning c.new.result.trellis.now c.args.t.now c.new.ensures.trellis) c.new.ensures.number)
 
 pub loop-k-init : goal.loop-k-init
 loop-k-init c = (
-  front_none (outer_extrinsic c.args.n c.args.priors.now) (2 * c.args.n) c.args.out.now,
-  front_none (data_reliability c.args.n c.args.priors.now) c.args.n c.args.found.now,
-  front_none (decision c.args.n c.args.priors.now) c.args.n c.args.decided.now,
+  front_none (outer_extrinsic c.args.t.now.n c.args.t.now.priors.now) (2 * c.args.t.now.n) c.args.out.now,
+  front_none (data_reliability c.args.t.now.n c.args.t.now.priors.now) c.args.t.now.n c.args.found.now,
+  front_none (decision c.args.t.now.n c.args.t.now.priors.now) c.args.t.now.n c.args.decided.now,
 )
 
 pub loop-k-preserved : goal.loop-k-preserved
 loop-k-preserved c =
-    let n = c.args.n in
-    let priors = c.args.priors.now in
+    let n = c.args.t.now.n in
+    let priors = c.args.t.now.priors.now in
     let k = c.loop-k.k in
-    let means = same_meaning c.new.result.trellis.now c.new-t.result c.new.ensures.trellis ∙ c.new-t.ensures.means in
+    let means = same_meaning c.new.result.trellis.now c.args.t.now c.new.ensures.trellis in
     let zeroth = of_same _ _ _ k 0 _ (c.stage_reliabilities.ensures.told 0 (omega arith)) means c.new.ensures.number in
     let first = of_same _ _ _ k 1 _ (c.stage_reliabilities.ensures.told 1 (omega arith)) means c.new.ensures.number in
     let data_bit = of_same _ _ _ k 2 _ (c.stage_reliabilities.ensures.told 2 (omega arith)) means c.new.ensures.number in
@@ -64,8 +64,8 @@ loop-k-preserved c =
 pub returns : goal.returns
 unfolding outer_extrinsics data_reliabilities decisions
 returns c =
-    let n = c.args.n in
-    let priors = c.args.priors.now in
+    let n = c.args.t.now.n in
+    let priors = c.args.t.now.priors.now in
     let e : c.loop-k.k ≡ n = omega arith in
     let d : 2 * c.loop-k.k ≡ 2 * n = omega arith in
     record {
@@ -75,5 +75,5 @@ returns c =
       reliabilities_tail = c.loop-k.invariant.1.tail;
       bits = front_all (decision n priors) c.loop-k.k n c.args.decided.now c.loop-k.decided c.loop-k.invariant.2 e;
       bits_tail = c.loop-k.invariant.2.tail;
-      worked = same_work c.args.way _ _ (length c.args.table.now) c.work.new.table c.work.ensures.whole c.new-t.ensures.means;
+      worked = c.work.ensures.whole;
     }

@@ -5,6 +5,6 @@ use Rattle.outer_pass.proofs.pass.outer_pass.Given as goal
 
 abbrev pub invariant-loop-k : goal.invariant-loop-k
 invariant-loop-k l =
-    Front (outer_extrinsic l.n l.priors) (2 * l.k) (2 * l.n) l.initial.out l.out
-    × Front (data_reliability l.n l.priors) l.k l.n l.initial.found l.found
-    × Front (decision l.n l.priors) l.k l.n l.initial.decided l.decided
+    Front (outer_extrinsic l.t.n l.t.priors.now) (2 * l.k) (2 * l.t.n) l.initial.out l.out
+    × Front (data_reliability l.t.n l.t.priors.now) l.k l.t.n l.initial.found l.found
+    × Front (decision l.t.n l.t.priors.now) l.k l.t.n l.initial.decided l.decided
