@@ -7,7 +7,7 @@ ghost use Rattle.cost_file.specs.Files.{plan_in, rows_end, length_fault, plan_re
 
 use crate::faults::{Fault, Layer};
 use crate::judging::judge;
-use crate::layout::{length_due, rows_end};
+use crate::layout::{payload_end, rows_end};
 use crate::records::Kind;
 use plans::{Plan, PlanValues, Refusal};
 
@@ -76,7 +76,7 @@ impl<'f> DueFile<'f> {
           | Err e ↦ due_fault plan.values file.now ≡ Some e
         ] }
     {
-        if file.len() != length_due(plan, false) && file.len() != length_due(plan, true) {
+        if file.len() != rows_end(plan) && file.len() != payload_end(plan) {
             return Err(Fault::new(Refusal::LengthDue, 0, Layer::Contents));
         }
         Ok(DueFile { file, plan })
