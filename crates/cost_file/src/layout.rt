@@ -1,6 +1,6 @@
 //! Where the records of a cost file lie.
 
-ghost use Rattle.std.specs.Prelude.{◌≡◌, ◌+◌, ◌*◌, ◌^◌, ◌<◌, ◌≤◌, if◌then◌else◌};
+ghost use Rattle.std.specs.Prelude.{◌≡◌, ◌+◌, ◌*◌, ◌≤◌};
 ghost use Rattle.plans.specs.Plans.{symbols};
 ghost use Rattle.cost_file.specs.Files.{row_at, rows_end};
 

@@ -1,6 +1,6 @@
 //! The slot costs of a block without noise.
 
-ghost use Rattle.std.specs.Prelude.{◌≡◌, ℕ, ◌*◌, ◌<◌, ◌≤◌, map, length, take, drop};
+ghost use Rattle.std.specs.Prelude.{◌≡◌, ◌*◌, ◌<◌, map, length};
 ghost use Rattle.std.specs.List.{range_with_len};
 ghost use Rattle.encoder.specs.Clean.{clean_cost, Lays};
 
