@@ -40,10 +40,10 @@ pub(crate) fn read_plan(file: &[u8]) -> PlanValues
     ensures value { result ≡ plan_in file.now }
 {
     PlanValues {
-        bytes: 256 * u32::from(file[4]) + u32::from(file[5]),
-        bits: u32::from(file[6]),
-        a: 256 * u32::from(file[8]) + u32::from(file[9]),
-        b: 256 * u32::from(file[10]) + u32::from(file[11]),
+        bytes: u16::from_be_bytes([file[4], file[5]]).into(),
+        bits: file[6].into(),
+        a: u16::from_be_bytes([file[8], file[9]]).into(),
+        b: u16::from_be_bytes([file[10], file[11]]).into(),
     }
 }
 
