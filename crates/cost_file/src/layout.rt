@@ -1,6 +1,6 @@
 //! Where the records of a cost file lie.
 
-ghost use Rattle.std.specs.Prelude.{◌≡◌, ◌+◌, ◌*◌, ◌^◌, ◌<◌, ◌≤◌, if◌then◌else◌};
+ghost use Rattle.std.specs.Prelude.{◌≡◌, ◌+◌, ◌*◌, ◌≤◌};
 ghost use Rattle.plans.specs.Plans.{symbols};
 ghost use Rattle.cost_file.specs.Files.{row_at, rows_end};
 
@@ -24,11 +24,10 @@ pub(crate) fn rows_end(plan: Plan) -> usize
     row_at(plan, plan.symbols())
 }
 
-/// The length of a file with its payload, or of one without.
-pub(crate) fn length_due(plan: Plan, stored: bool) -> usize
-    ensures value { result ≡ (if stored then rows_end plan.values + plan.values.bytes + 8 else rows_end plan.values) }
+/// The length of a file that has one.
+pub(crate) fn payload_end(plan: Plan) -> usize
+    ensures value { result ≡ rows_end plan.values + plan.values.bytes + 8 }
     ensures bound { result ≤ 600000 }
 {
-    let end = rows_end(plan);
-    if stored { end + plan.bytes() + 8 } else { end }
+    rows_end(plan) + plan.bytes() + 8
 }

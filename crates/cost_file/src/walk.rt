@@ -7,7 +7,7 @@ ghost use Rattle.cost_file.specs.Files.{plan_in, rows_end, length_fault, plan_re
 
 use crate::faults::{Fault, Layer};
 use crate::judging::judge;
-use crate::layout::{length_due, rows_end};
+use crate::layout::{payload_end, rows_end};
 use crate::records::Kind;
 use plans::{Plan, PlanValues, Refusal};
 
@@ -40,10 +40,10 @@ pub(crate) fn read_plan(file: &[u8]) -> PlanValues
     ensures value { result ≡ plan_in file.now }
 {
     PlanValues {
-        bytes: 256 * u32::from(file[4]) + u32::from(file[5]),
-        bits: u32::from(file[6]),
-        a: 256 * u32::from(file[8]) + u32::from(file[9]),
-        b: 256 * u32::from(file[10]) + u32::from(file[11]),
+        bytes: u16::from_be_bytes([file[4], file[5]]).into(),
+        bits: file[6].into(),
+        a: u16::from_be_bytes([file[8], file[9]]).into(),
+        b: u16::from_be_bytes([file[10], file[11]]).into(),
     }
 }
 
@@ -76,7 +76,7 @@ impl<'f> DueFile<'f> {
           | Err e ↦ due_fault plan.values file.now ≡ Some e
         ] }
     {
-        if file.len() != length_due(plan, false) && file.len() != length_due(plan, true) {
+        if file.len() != rows_end(plan) && file.len() != payload_end(plan) {
             return Err(Fault::new(Refusal::LengthDue, 0, Layer::Contents));
         }
         Ok(DueFile { file, plan })

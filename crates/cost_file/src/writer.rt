@@ -6,7 +6,7 @@ ghost use Rattle.cost_file.specs.Records.{kind_of, packed};
 ghost use Rattle.cost_file.specs.Files.{plan_body, rows_written, rows_end, written, lengths_fit, write_refusal};
 ghost use Rattle.cost_file.specs.Promises.{kept, Laid, Writes};
 
-use crate::layout::{length_due, row_at, rows_end};
+use crate::layout::{payload_end, row_at, rows_end};
 use crate::records::Kind;
 use plans::{Plan, PlanValues, Refusal};
 use polynomial::check;
@@ -67,11 +67,14 @@ impl<'a> Contents<'a> {
     }
 
     // How many bytes the file has.
-    #[tactic(auto, using(crate::proofs::Wrote::due_written))]
+    #[tactic(auto, using(crate::proofs::Laying::file_length))]
     fn size(&self) -> usize
         ensures value { result ≡ length (written (kept_of self.now)) }
     {
-        length_due(self.plan, self.payload.is_some())
+        match self.payload {
+            Some(_) => payload_end(self.plan),
+            None => rows_end(self.plan),
+        }
     }
 
     // The records of all rows, behind the first 16 bytes.

@@ -4,6 +4,10 @@ use mir.Val.{bool_byte}
 use Rattle.std.specs.List.{range_with_len}
 use Rattle.std.proofs.lemmas.List.FromFn.{map-range_with_len_more, length-map-range_with_len}
 use Rattle.std.proofs.lemmas.List.{take_more_set}
+use native.Mathlib.Nat.{div-mul_cancel}
+use Rattle.plans.specs.declared.accepted.Plan.{Plan}
+use Rattle.plans.specs.Plans.{coded, symbols}
+use Rattle.plans.proofs.Answering.{accepted}
 use Rattle.polynomial.specs.Polynomials.{bit, value}
 use Rattle.polynomial.proofs.Binary.{value_append, value_lt}
 
@@ -44,3 +48,14 @@ inside k n m i l h = let e : suc k * m ≤ n * m = mul-le-mul l (le_refl m) in l
 -- a buffer whose front is made place by place
 pub filled_more : (f : ℕ → ℕ) (out : List ℕ) (k x : ℕ) → k < length out → take k out ≡ map f (range_with_len 0 k) → x ≡ f k → take (k + 1) (set out k x) ≡ map f (range_with_len 0 (k + 1))
 filled_more f out k x l h e = take_more_set out k x l ∙ ap (λ xs. xs ++ x ∷ []) h ∙ ap (λ y. map f (range_with_len 0 k) ++ y ∷ []) e ∙ sym (map-range_with_len_more f 0 k k (omega arith))
+
+-- the symbols of an accepted plan take all coded bits, which are few
+pub record Whole (p : Plan) : Type 0 where
+  pub all : symbols p.values * p.values.bits ≡ coded p.values
+  pub few : coded p.values ≤ 16384
+
+pub whole : (p : Plan) → Whole p
+whole p =
+    let a = accepted p.values p.accepted in
+    let high = a.0.high in
+    record { all = div-mul_cancel _ a.1.even; few = omega arith }

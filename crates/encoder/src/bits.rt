@@ -1,7 +1,6 @@
 //! One bit of a block at a time, from the payload and its check.
 
-ghost use Rattle.std.specs.Prelude.{◌≡◌, ℕ, ◌+◌, ◌-◌, ◌*◌, ◌/◌, ◌%◌, ◌^◌, ◌<◌, ◌≤◌, false, cond, length, ◌==◌, slice_index_or};
-ghost use Rattle.polynomial.specs.Polynomials.{xor};
+ghost use Rattle.std.specs.Prelude.{◌≡◌, ◌+◌, ◌-◌, ◌*◌, ◌/◌, ◌%◌, ◌^◌, ◌<◌, ◌≤◌, false, length, ◌==◌, slice_index_or};
 ghost use Rattle.polynomial.specs.Bytes.{check_of};
 ghost use Rattle.encoder.specs.Encoding.{data_bits, earlier, coded_bit};
 

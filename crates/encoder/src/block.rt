@@ -1,9 +1,8 @@
 //! A whole block.
 
-ghost use Rattle.std.specs.Prelude.{◌≡◌, ℕ, ◌+◌, ◌*◌, ◌<◌, ◌≤◌, length, take, drop};
+ghost use Rattle.std.specs.Prelude.{◌≡◌, ◌+◌, ◌*◌, ◌<◌, length};
 ghost use Rattle.plans.specs.Plans.{symbols, coded};
-ghost use Rattle.polynomial.specs.Bytes.{check_of};
-ghost use Rattle.encoder.specs.Encoding.{data_bits, interleaved_bit, held_before, slot, encoded};
+ghost use Rattle.encoder.specs.Encoding.{data_bits, held_before, slot, encoded};
 ghost use Rattle.encoder.specs.Promises.{Encodes};
 
 use crate::bits::CheckedPayload;
@@ -30,7 +29,7 @@ impl<'a> Block<'a> {
     }
 
     // The slot of symbol k, and what the accumulator holds after it.
-    #[tactic(auto, using(crate::proofs::Symbols::read_byte, crate::proofs::Symbols::read_more, crate::proofs::Symbols::bit_byte, crate::proofs::Symbols::byte_small, crate::proofs::Symbols::inside), unfolding(crate::specs::Encoding::slot))]
+    #[tactic(auto, using(crate::proofs::Symbols::read_byte, crate::proofs::Symbols::read_more, crate::proofs::Symbols::bit_byte, crate::proofs::Symbols::byte_small, crate::proofs::Symbols::inside, crate::proofs::Symbols::whole), unfolding(crate::specs::Encoding::slot))]
     fn slot_of(&self, k: usize, held: bool) -> (u8, bool)
         requires inside { k < symbols self.now.plan.values }
         requires before { held ≡ held_before (sent_bit self.now) (k * self.now.plan.values.bits) }
@@ -38,7 +37,6 @@ impl<'a> Block<'a> {
         ensures held { result.1 ≡ held_before (sent_bit self.now) (k * self.now.plan.values.bits + self.now.plan.values.bits) }
     {
         let m = self.plan.bits();
-        let n = self.plan.symbols();
         let mut acc = held;
         let mut value: u32 = 0;
         for i in 0..m {

@@ -1,12 +1,13 @@
 //! The slot costs of a block without noise.
 
-ghost use Rattle.std.specs.Prelude.{◌≡◌, ℕ, ◌*◌, ◌<◌, ◌≤◌, map, length, take, drop};
+ghost use Rattle.std.specs.Prelude.{◌≡◌, ◌*◌, ◌<◌, map, length};
 ghost use Rattle.std.specs.List.{range_with_len};
 ghost use Rattle.encoder.specs.Clean.{clean_cost, Lays};
 
 use plans::{Plan, PlanValues, Refusal};
 
-// What one slot of a clean block costs.
+// What one slot of a clean block costs, counted over all rows: what is written through
+// `chunks_exact_mut`, a row at a time, would be lost to a proof.
 #[tactic(auto, using(std::proofs::lemmas::Nat::div_below))]
 fn cost_at(sent: &[u8], m: usize, cost: u8, i: usize) -> u8
     requires some { 0 < m }

@@ -1,6 +1,6 @@
 //! A plan that passed its questions.
 
-ghost use Rattle.std.specs.Prelude.{◌≡◌, ℕ, ◌+◌, ◌*◌, ◌%◌, ◌^◌, ◌<◌, ◌≤◌, true, false, ◌&&◌, ltb, is_some, if◌then◌else◌, Some, None, Ok, Err, ◌==◌, nat_le, nat_lt};
+ghost use Rattle.std.specs.Prelude.{◌≡◌, ◌+◌, ◌*◌, ◌%◌, ◌^◌, ◌<◌, ◌≤◌, true, ◌&&◌, ltb, if◌then◌else◌, Some, None, Ok, Err, ◌==◌, nat_le, nat_lt};
 ghost use Rattle.plans.specs.Permutations.{Permutation};
 ghost use Rattle.plans.specs.Plans.{stages, coded, symbols, slots, interleaver, sized, grouped, permuting, plan_refusal, Answered};
 
