@@ -1,5 +1,4 @@
 pub mod Rows
-pub mod Questions
 pub mod Turns
 pub mod Dots
 pub mod Rooms

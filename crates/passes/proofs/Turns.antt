@@ -9,7 +9,7 @@ use Rattle.paths.specs.Trellises.{Each}
 use Rattle.paths.specs.Columns.{gathered, parallel}
 use Rattle.paths.proofs.Inside.{Low}
 use Rattle.passes.proofs.Rows.{row_under}
-use Rattle.passes.proofs.Questions.{nth_within, nth_is}
+use Rattle.std.proofs.lemmas.Option.{slice_get_within, get_or_from_slice_get}
 
 module _ {W : Type 0} (o : Operations W) where
   gathered_last : (test : Edge → Bool) (v : Edge → W) (a : W) (es : List Edge) (e : Edge)
@@ -21,7 +21,7 @@ module _ {W : Type 0} (o : Operations W) where
   pub gathered_more : (test : Edge → Bool) (v : Edge → W) (a : W) (es : List Edge) (i : ℕ) (e : Edge) → slice_get es i ≡ Some e
       → gathered o test v a (take (i + 1) es) ≡ cond (test e) (o.join (gathered o test v a (take i es)) (v e)) (gathered o test v a (take i es))
   gathered_more test v a es i e at =
-      ap (gathered o test v a) (take_more es i e (nth_within es i e at) ∙ ap (λ y. take i es ++ (y ∷ [])) (nth_is es i e at))
+      ap (gathered o test v a) (take_more es i e (slice_get_within es i e at) ∙ ap (λ y. take i es ++ (y ∷ [])) (get_or_from_slice_get es i e e at))
       ∙ gathered_last test v a (take i es) e
 
   -- other values of the same edges

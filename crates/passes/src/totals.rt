@@ -10,7 +10,7 @@ ghost use Rattle.passes.specs.Totals.{in_last, from_first, by_edges};
 use super::columns::start;
 use super::metastages::place_of;
 use super::stages::clear;
-use paths::{Semiring, Trellis, Weights};
+use paths::{Semiring, Stage, Trellis, Weights};
 
 // The join of a column's entries in last states.
 fn last_states<T: Trellis, W: Weights>(t: &T, table: &[W::Value], at: usize) -> W::Value
@@ -85,26 +85,21 @@ fn carry<W: Weights>(table: &mut [W::Value], from: usize, to: usize, cost: u32)
     table[to] = W::join(table[to], more);
 }
 
-// The next column, edge by edge.
+// The column behind a stage from that before it, edge by edge.
 fn carry_stage<T: Trellis, W: Weights>(
-    t: &T,
-    k: usize,
+    stage: &Stage<T>,
     table: &mut [W::Value],
     from: usize,
     to: usize,
 )
-    requires stage { k < (T.meaning t.now).stages }
     requires room { (from + T.states ≤ length table.old) × (to + T.states ≤ length table.old) }
     requires apart { (from + T.states ≤ to) ⊎ (to + T.states ≤ from) }
     ensures kept { Kept W.ops to T.states table.old table.new }
-    ensures made { (s : ℕ) → s < T.states → slice_index_or table.new (to + s) W.ops.none ≡ by_edges W.ops table.old from ((T.meaning t.now).edges k) s }
+    ensures made { (s : ℕ) → s < T.states → slice_index_or table.new (to + s) W.ops.none ≡ by_edges W.ops table.old from ((T.meaning stage.now.trellis.now).edges stage.now.number) s }
 {
     clear::<W>(table, to, T::state_count());
-    let Some(count) = t.edge_count(k) else {
-        unreachable()
-    };
-    for i in 0..count {
-        let Some(e) = t.edge(k, i) else { unreachable() };
+    for i in 0..stage.edge_count() {
+        let e = stage.edge(i);
         carry::<W>(table, from + e.from, to + e.to, e.cost);
     }
 }
@@ -119,7 +114,7 @@ pub fn total<T: Trellis, W: Semiring>(t: &T, columns: &mut [W::Value]) -> W::Val
     let mut from = 0;
     for k in 0..t.stages() {
         let to = states - from;
-        carry_stage::<T, W>(t, k, columns, from, to);
+        carry_stage::<T, W>(&Stage::new(t, k), columns, from, to);
         from = to;
     }
     last_states::<T, W>(t, columns, from)

@@ -7,6 +7,6 @@ abbrev pub invariant-loop-i : goal.invariant-loop-i
 invariant-loop-i g l =
     let o = g.W.Weights.ops in
     let w = g.T.Trellis.states in
-    let m = g.T.Trellis.meaning l.t in
+    let es = (g.T.Trellis.meaning l.stage.trellis.now).edges l.stage.number in
     Kept o l.to (w * w) l.initial.table l.table
-    × ((x y : ℕ) → x < w → y < w → get_or l.table (l.to + (x * w + y)) o.none ≡ parallel o (take l.i (m.edges l.k)) x y)
+    × ((x y : ℕ) → x < w → y < w → get_or l.table (l.to + (x * w + y)) o.none ≡ parallel o (take l.i es) x y)

@@ -30,7 +30,7 @@ lay_stage-requires g c =
     let k = c.loop-k.k in
     let e = ap (λ v. k * (v * v)) c.state_count-states.ensures in
     let u = row_under k (g.T.Trellis.meaning c.args.t.now).stages (w * w) (omega arith) in
-    record { stage = omega arith; room = omega arith }
+    omega arith
 
 pub loop-k-preserved : goal.loop-k-preserved
 loop-k-preserved g c =
@@ -54,7 +54,7 @@ loop-k-preserved g c =
           let is : j ≡ k = omega arith in
           ap (λ i. get_or new (stage_at base w i x y) o.none) is
           ∙ ap (λ a. get_or new (base + a + (x * w + y)) o.none) (sym e)
-          ∙ c.lay_stage.ensures.made x y small little
+          ∙ rw (c.new.ensures.trellis, c.new.ensures.number) at (c.lay_stage.ensures.made x y small little)
           ∙ ap (λ i. parallel o (m.edges i) x y) (sym is))
           (cases_lt j k),
     )

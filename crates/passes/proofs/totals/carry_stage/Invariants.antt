@@ -7,6 +7,6 @@ abbrev pub invariant-loop-i : goal.invariant-loop-i
 invariant-loop-i g l =
     let o = g.W.Weights.ops in
     let w = g.T.Trellis.states in
-    let m = g.T.Trellis.meaning l.t in
+    let es = (g.T.Trellis.meaning l.stage.trellis.now).edges l.stage.number in
     Kept o l.to w l.initial.table l.table
-    × ((s : ℕ) → s < w → get_or l.table (l.to + s) o.none ≡ by_edges o l.initial.table l.from (take l.i (m.edges l.k)) s)
+    × ((s : ℕ) → s < w → get_or l.table (l.to + s) o.none ≡ by_edges o l.initial.table l.from (take l.i es) s)

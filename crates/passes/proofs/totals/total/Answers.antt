@@ -14,7 +14,6 @@ pub carry_stage-requires : goal.carry_stage-requires
 carry_stage-requires g c =
     let q = c.state_count-states.ensures in
     record {
-      stage = omega arith;
       room = (⊎_elim (λ h. omega arith) (λ h. omega arith) c.loop-k.invariant.0, ⊎_elim (λ h. omega arith) (λ h. omega arith) c.loop-k.invariant.0);
       apart = ⊎_elim (λ h. inl (omega arith)) (λ h. inr (omega arith)) c.loop-k.invariant.0;
     }
@@ -25,7 +24,7 @@ loop-k-preserved g c =
     let w = g.T.Trellis.states in
     let q = c.state_count-states.ensures in (
       ⊎_elim (λ h. inr (omega arith)) (λ h. inl (omega arith)) c.loop-k.invariant.0,
-      λ s h. c.carry_stage.ensures.made s h ∙ column_by_edges g.met.W.Semiring.laws m (g.T.Trellis.lawful c.args.t.now) c.loop-k.columns c.loop-k.from c.loop-k.k (omega arith) c.loop-k.invariant.1 s,
+      λ s h. rw (c.new.ensures.trellis, c.new.ensures.number) at (c.carry_stage.ensures.made s h) ∙ column_by_edges g.met.W.Semiring.laws m (g.T.Trellis.lawful c.args.t.now) c.loop-k.columns c.loop-k.from c.loop-k.k (omega arith) c.loop-k.invariant.1 s,
     )
 
 pub last_states-requires : goal.last_states-requires
