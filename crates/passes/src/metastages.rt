@@ -15,9 +15,7 @@ pub(crate) fn copy<W: Weights>(table: &mut [W::Value], from: usize, to: usize, m
     ensures kept { Kept W.ops to many table.old table.new }
     ensures same { (i : ℕ) → i < many → slice_index_or table.new (to + i) W.ops.none ≡ slice_index_or table.old (from + i) W.ops.none }
 {
-    for i in 0..many {
-        table[to + i] = table[from + i];
-    }
+    table.copy_within(from..from + many, to);
 }
 
 // Two neighbouring metastages made one, row by row as columns are made.

@@ -12,9 +12,7 @@ pub(crate) fn clear<W: Weights>(table: &mut [W::Value], start: usize, many: usiz
     ensures kept { Kept W.ops start many table.old table.new }
     ensures clear { (i : ℕ) → i < many → slice_index_or table.new (start + i) W.ops.none ≡ W.ops.none }
 {
-    for i in 0..many {
-        table[start + i] = W::none();
-    }
+    table[start..start + many].fill_with(|| W::none());
 }
 
 // Joins the value of a cost to an entry: one of several parallel edges.

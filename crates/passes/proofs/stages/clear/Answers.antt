@@ -1,17 +1,16 @@
-use Rattle.std.proofs.Common.{◌+◌, ◌<◌, ◌≢◌, length, refl, arith, get_or-set_other, get_or-set_same, below_more}
+use Rattle.std.proofs.Common.{rules, ◌≡◌, ℕ, zero, suc, List, [], ◌∷◌, get_or, refl}
+use Rattle.std.specs.List.{FoldsTo}
+use Rattle.std.proofs.lemmas.List.{places}
 use Rattle.passes.proofs.stages.clear.Goals as goal
 
-pub loop-i-init : goal.loop-i-init
-loop-i-init g c = (λ p h. refl, λ i h. absurd (omega arith))
+-- what each call gives is all that stands
+filled : {F W : Type 0} (R : F → W → F → Type 0) (none : W) → ((p : F) (x : W) (q : F) → R p x q → x ≡ none) → (xs : List W) (p q : F) → FoldsTo R p xs q → (k : ℕ) → get_or xs k none ≡ none
+filled R none gives [] p q ran k = refl
+filled R none gives (x ∷ xs) p q ran zero = gives p x ran.0 ran.1
+filled R none gives (x ∷ xs) p q ran (suc k) = filled R none gives xs ran.0 q ran.2 k
 
-pub loop-i-preserved : goal.loop-i-preserved
-loop-i-preserved g c =
-    let at = c.args.start + c.loop-i.i in (
-      λ p h. let ne : p ≢ at = omega arith in rw get_or-set_other (c.loop-i.invariant.0 p h),
-      below_more _ _
-          (λ i h. let ne : (c.args.start + i) ≢ at = omega arith in rw get_or-set_other (c.loop-i.invariant.1 i h))
-          (let lt : at < length c.loop-i.table = omega arith in rw get_or-set_same c.none.ensures),
-    )
-
-pub returns : goal.returns
-returns g c = record { kept = c.loop-i.invariant.0; clear = λ i h. c.loop-i.invariant.1 i (omega arith) }
+pub returns-clause-clear : goal.returns-clause-clear
+returns-clause-clear g c i h =
+    let none = g.W.Weights.ops.none in
+    let all : get_or c.fill_with.new.self i none ≡ none = filled _ none (λ p x q ran. search rules) c.fill_with.new.self _ _ c.fill_with.ensures.ran.1 i in
+    search (rules, places)
