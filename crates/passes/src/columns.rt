@@ -1,6 +1,6 @@
 //! Forward and backward columns, from the metastages of the stages.
 
-ghost use Rattle.std.specs.Prelude.{◌≡◌, ℕ, ◌+◌, ◌*◌, ◌<◌, ◌≤◌, ◌⊎◌, length, if◌then◌else◌, slice_index_or};
+ghost use Rattle.std.specs.Prelude.{◌≡◌, ℕ, ◌+◌, ◌*◌, ◌<◌, ◌≤◌, ◌⊎◌, Bool, length, if◌then◌else◌, slice_index_or};
 ghost use Rattle.passes.specs.Tables.{Outside, Kept, columns_size, Stages, Forward, Backward, dotted};
 
 use paths::{Trellis, Weights};
@@ -44,25 +44,13 @@ pub(crate) fn column<W: Weights>(
     }
 }
 
-// The column before the first stage.
-pub(crate) fn start<T: Trellis, W: Weights>(t: &T, table: &mut [W::Value], to: usize)
-    requires { to + T.states ≤ length table.old }
-    ensures kept { Kept W.ops to T.states table.old table.new }
-    ensures made { (s : ℕ) → s < T.states → slice_index_or table.new (to + s) W.ops.none ≡ (if (T.meaning t.now).first s then W.ops.unit else W.ops.none) }
+// The column before the first stage or behind the last: unit where a path may begin, or end.
+pub(crate) fn border<W: Weights, F: Fn(usize) -> bool>(column: &mut [W::Value], may: F)
+    requires { F.IsAlwaysCallable may }
+    ensures { (s : ℕ) → s < length column.old → (b : Bool) × F.post may s b × (slice_index_or column.new s W.ops.none ≡ (if b then W.ops.unit else W.ops.none)) }
 {
-    for s in 0..T::state_count() {
-        table[to + s] = if t.first(s) { W::unit() } else { W::none() };
-    }
-}
-
-// The column behind the last stage.
-fn finish<T: Trellis, W: Weights>(t: &T, table: &mut [W::Value], to: usize)
-    requires { to + T.states ≤ length table.old }
-    ensures kept { Kept W.ops to T.states table.old table.new }
-    ensures made { (s : ℕ) → s < T.states → slice_index_or table.new (to + s) W.ops.none ≡ (if (T.meaning t.now).last s then W.ops.unit else W.ops.none) }
-{
-    for s in 0..T::state_count() {
-        table[to + s] = if t.last(s) { W::unit() } else { W::none() };
+    for (s, x) in column.iter_mut().enumerate() {
+        *x = if may(s) { W::unit() } else { W::none() };
     }
 }
 
@@ -75,7 +63,7 @@ pub fn forward<T: Trellis, W: Weights>(t: &T, table: &mut [W::Value], base: usiz
 {
     let states = T::state_count();
     let square = states * states;
-    start::<T, W>(t, table, 0);
+    border::<W, _>(&mut table[..states], |s| t.first(s));
     for k in 0..t.stages() {
         let from = k * states;
         let meta = base + k * square;
@@ -95,7 +83,8 @@ pub fn backward<T: Trellis, W: Weights>(t: &T, table: &mut [W::Value], base: usi
     let square = states * states;
     let stages = t.stages();
     let front = stages * states + states;
-    finish::<T, W>(t, table, front + stages * states);
+    let last = front + stages * states;
+    border::<W, _>(&mut table[last..last + states], |s| t.last(s));
     for k in (0..stages).rev() {
         let to = front + k * states;
         let meta = base + k * square;

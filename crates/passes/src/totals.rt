@@ -7,7 +7,7 @@ ghost use Rattle.passes.specs.Tables.{Kept, columns_size, Forward};
 ghost use Rattle.passes.specs.Levels.{Levels, levels_room};
 ghost use Rattle.passes.specs.Totals.{in_last, from_first, by_edges};
 
-use super::columns::start;
+use super::columns::border;
 use super::metastages::place_of;
 use super::stages::clear;
 use paths::{Semiring, Stage, Trellis, Weights};
@@ -110,7 +110,7 @@ pub fn total<T: Trellis, W: Semiring>(t: &T, columns: &mut [W::Value]) -> W::Val
     ensures { result ≡ path_join W.Weights.ops (paths T.states (T.meaning t.now)) }
 {
     let states = T::state_count();
-    start::<T, W>(t, columns, 0);
+    border::<W, _>(&mut columns[..states], |s| t.first(s));
     let mut from = 0;
     for k in 0..t.stages() {
         let to = states - from;

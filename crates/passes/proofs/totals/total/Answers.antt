@@ -1,4 +1,5 @@
-use Rattle.std.proofs.Common.{◌≡◌, sym, ap, ◌∙◌, inl, inr, ⊎_elim, arith}
+use Rattle.std.proofs.Common.{zero-add, rules, cond, drop, ◌≡◌, sym, ap, ◌∙◌, inl, inr, ⊎_elim, arith}
+use Rattle.std.proofs.lemmas.List.{places, get_or_append_left}
 use Rattle.paths.specs.Paths.{before, path_join}
 use Rattle.paths.proofs.Steps.{start_forward}
 use Rattle.passes.proofs.Sums.{last_column, column_by_edges}
@@ -8,7 +9,15 @@ pub loop-k-init : goal.loop-k-init
 loop-k-init g c =
     let m = g.T.Trellis.meaning c.args.t.now in
     let w = g.T.Trellis.states in
-    (inl (omega arith), λ s h. c.start.ensures.made s h ∙ sym (start_forward g.met.W.Semiring.laws w m s h))
+    let o = g.W.Weights.ops in (
+      inl (omega arith),
+      λ s h.
+          let made = c.border.ensures s (search (rules, places)) in
+          let first : made.0 ≡ m.first s = search rules in
+          rw zero-add
+          (get_or_append_left c.border.new.column (drop c.state_count-states.result c.args.columns.now) o.none s (search (rules, places)) ∙ made.2 ∙ ap (λ b. cond b o.unit o.none) first
+          ∙ sym (start_forward g.met.W.Semiring.laws w m s h)),
+    )
 
 pub carry_stage-requires : goal.carry_stage-requires
 carry_stage-requires g c =
