@@ -2,7 +2,7 @@
 
 ghost use Rattle.std.specs.Prelude.{◌≡◌, ◌≤◌, length};
 
-use passes::{by_order, total};
+use passes::{Span, by_order, total};
 use paths::{LeastCostWithTies, Tied};
 use std::io;
 use trellises::Inner;
@@ -17,16 +17,36 @@ pub(crate) fn show_groupings(rt: &HostRuntime) -> anyhow::Result<()> {
         count: 0,
     };
     let mut table = vec![in rt.alloc(); none; 64]?;
-    let mut ends = vec![in rt.alloc(); 0usize; 16]?;
+    let mut spans = vec![in rt.alloc(); Span { end: 0, begin: 0 }; 8]?;
     let all = two_columns(&t, table.as_mut_slice());
     println!(rt; "two columns: cost {} ties {}", all.cost, all.count)?;
     let table = table.as_mut_slice();
-    let ends = ends.as_mut_slice();
-    show_order(rt, &[1, 2, 3, 4], one_order(&t, &[1, 2, 3, 4], table, ends))?;
-    show_order(rt, &[4, 3, 2, 1], one_order(&t, &[4, 3, 2, 1], table, ends))?;
-    show_order(rt, &[2, 4, 1, 3], one_order(&t, &[2, 4, 1, 3], table, ends))?;
-    show_order(rt, &[3, 1, 4, 2], one_order(&t, &[3, 1, 4, 2], table, ends))?;
-    show_order(rt, &[1, 1, 2, 3], one_order(&t, &[1, 1, 2, 3], table, ends))?;
+    let spans = spans.as_mut_slice();
+    show_order(
+        rt,
+        &[1, 2, 3, 4],
+        one_order(&t, &[1, 2, 3, 4], table, spans),
+    )?;
+    show_order(
+        rt,
+        &[4, 3, 2, 1],
+        one_order(&t, &[4, 3, 2, 1], table, spans),
+    )?;
+    show_order(
+        rt,
+        &[2, 4, 1, 3],
+        one_order(&t, &[2, 4, 1, 3], table, spans),
+    )?;
+    show_order(
+        rt,
+        &[3, 1, 4, 2],
+        one_order(&t, &[3, 1, 4, 2], table, spans),
+    )?;
+    show_order(
+        rt,
+        &[1, 1, 2, 3],
+        one_order(&t, &[1, 1, 2, 3], table, spans),
+    )?;
     Ok(())
 }
 
@@ -36,10 +56,10 @@ fn two_columns(t: &Inner, table: &mut [Tied]) -> Tied
     total::<Inner, LeastCostWithTies>(t, table)
 }
 
-fn one_order(t: &Inner, order: &[usize], table: &mut [Tied], ends: &mut [usize]) -> Option<Tied>
-    requires { (t.now.n ≡ 5) × (24 ≤ length table.old) × (10 ≤ length ends.old) }
+fn one_order(t: &Inner, order: &[usize], table: &mut [Tied], spans: &mut [Span]) -> Option<Tied>
+    requires { (t.now.n ≡ 5) × (24 ≤ length table.old) × (5 ≤ length spans.old) }
 {
-    by_order::<Inner, LeastCostWithTies>(t, order, table, ends)
+    by_order::<Inner, LeastCostWithTies>(t, order, table, spans)
 }
 
 fn show_order(rt: &HostRuntime, order: &[usize], made: Option<Tied>) -> io::Result<()> {
