@@ -95,5 +95,5 @@ pub fn by_order<T: Trellis, W: Semiring>(
         replace::<W>(table, first * square, *j * square, stages * square, states);
         close(spans, *j);
     }
-    Some(first_to_last::<T, W>(t, table, 0))
+    Some(first_to_last::<T, W>(t, &table[..square]))
 }

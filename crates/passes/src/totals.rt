@@ -13,32 +13,29 @@ use super::stages::clear;
 use paths::{Semiring, Stage, Trellis, Weights};
 
 // The join of a column's entries in last states.
-fn last_states<T: Trellis, W: Weights>(t: &T, table: &[W::Value], at: usize) -> W::Value
-    requires { at + T.states ≤ length table.now }
-    ensures { result ≡ in_last W.ops T.states (T.meaning t.now) table.now at }
+fn last_states<T: Trellis, W: Weights>(t: &T, column: &[W::Value]) -> W::Value
+    requires { length column.now ≡ T.states }
+    ensures { result ≡ in_last W.ops T.states (T.meaning t.now) column.now }
 {
     let mut sum = W::none();
-    for s in 0..T::state_count() {
-        let x = if t.last(s) { table[at + s] } else { W::none() };
+    for (s, x) in column.iter().enumerate() {
+        let x = if t.last(s) { *x } else { W::none() };
         sum = W::join(sum, x);
     }
     sum
 }
 
 // The join of a metastage's entries from first to last states.
-pub(crate) fn first_to_last<T: Trellis, W: Weights>(
-    t: &T,
-    table: &[W::Value],
-    at: usize,
-) -> W::Value
-    requires { at + T.states * T.states ≤ length table.now }
-    ensures { result ≡ from_first W.ops T.states (T.meaning t.now) table.now at }
+pub(crate) fn first_to_last<T: Trellis, W: Weights>(t: &T, metastage: &[W::Value]) -> W::Value
+    requires { length metastage.now ≡ T.states * T.states }
+    ensures { result ≡ from_first W.ops T.states (T.meaning t.now) metastage.now }
 {
     let states = T::state_count();
     let mut sum = W::none();
+    // By `chunks_exact(states).enumerate()` the proof did not close: that the iterator counts no further than its rows was not found.
     for s in 0..states {
         let x = if t.first(s) {
-            last_states::<T, W>(t, table, at + s * states)
+            last_states::<T, W>(t, &metastage[s * states..(s + 1) * states])
         } else {
             W::none()
         };
@@ -53,7 +50,9 @@ pub fn by_columns<T: Trellis, W: Semiring>(t: &T, table: &[W::Value]) -> W::Valu
     requires made { Forward W.Weights.ops T.states (T.meaning t.now) table.now }
     ensures { result ≡ path_join W.Weights.ops (paths T.states (T.meaning t.now)) }
 {
-    last_states::<T, W>(t, table, t.stages() * T::state_count())
+    let states = T::state_count();
+    let last = t.stages() * states;
+    last_states::<T, W>(t, &table[last..last + states])
 }
 
 /// The join over all paths, from the levels of metastages: the one of the last level, from first to last states.
@@ -69,11 +68,9 @@ pub fn by_levels<T: Trellis, W: Semiring>(
     requires made { Levels W.Weights.ops T.states (T.meaning t.now) base level table.now }
     ensures { result ≡ path_join W.Weights.ops (paths T.states (T.meaning t.now)) }
 {
-    first_to_last::<T, W>(
-        t,
-        table,
-        place_of(base, T::state_count(), t.stages(), level, 0),
-    )
+    let states = T::state_count();
+    let place = place_of(base, states, t.stages(), level, 0);
+    first_to_last::<T, W>(t, &table[place..place + states * states])
 }
 
 // One edge: its start's entry chained with its value, joined to its end's entry.
@@ -117,5 +114,5 @@ pub fn total<T: Trellis, W: Semiring>(t: &T, columns: &mut [W::Value]) -> W::Val
         carry_stage::<T, W>(&Stage::new(t, k), columns, from, to);
         from = to;
     }
-    last_states::<T, W>(t, columns, from)
+    last_states::<T, W>(t, &columns[from..from + states])
 }

@@ -1,10 +1,11 @@
-use Rattle.std.proofs.Common.{◌≡◌, ℕ, ◌+◌, ◌-◌, ◌*◌, ◌<◌, true, false, not, ◌&&◌, eqb, ltb, ◌≢◌, length, get_or, drop, Some, sym, refl, ap, ◌∙◌, subst, zero-mul, arith}
-use Rattle.std.proofs.lemmas.List.{length-take-le}
+use Rattle.std.proofs.Common.{take, ◌≡◌, ℕ, ◌+◌, ◌-◌, ◌*◌, ◌<◌, true, false, not, ◌&&◌, eqb, ltb, ◌≢◌, length, get_or, drop, Some, sym, refl, ap, ◌∙◌, subst, zero-mul, arith}
+use Rattle.std.proofs.lemmas.List.{get_or-take, length-take-le}
 use Rattle.std.proofs.lemmas.Bool.{ne_eqb, lt-ltb, le-ltb, and_left, cond-true, cond-false}
 use Rattle.paths.specs.Trellises.{Lawful}
 use Rattle.paths.specs.Paths.{across, path_join}
 use Rattle.passes.specs.Tables.{stage_at, Stages}
 use Rattle.passes.specs.Orders.{span_at, within, none_twice, complete_order, ends_at, is_open, made_one}
+use Rattle.passes.proofs.Rooms.{entry_room}
 use Rattle.passes.proofs.Blocks.{Blocks, single, first_low, last_low, at_boundary, one_sound}
 use Rattle.passes.proofs.Counts.{opens, opens_all, opens_less, one_left}
 use Rattle.passes.proofs.Follows.{follows, open_parts, open_after, complete_is, follows_on, follows_stops, follows_ends}
@@ -151,9 +152,11 @@ returns g c =
     ∙ c.loop-j.invariant.3 ∙ follows_ends n e order c.loop-j.j-index (omega arith) in
     ap Some
     (c.first_to_last.ensures
-    ∙ last_metastage g.met.W.Semiring.laws m (g.T.Trellis.lawful c.args.t.now) tb 0
+    ∙ last_metastage g.met.W.Semiring.laws m (g.T.Trellis.lawful c.args.t.now) (take (v * v) tb)
     (λ x y small little.
     let zero_row = zero-mul (w * w) in
-    let at : 0 + (x * w + y) ≡ stage_at 0 w 0 x y = omega arith in
-    ap (λ p. get_or tb p o.none) at ∙ stands 0 (omega arith) (omega arith) x y small little ∙ ap (λ b. path_join o (across m 0 b x y)) whole))
+    let square : v * v ≡ w * w = ap (λ v. v * v) c.state_count-states.ensures in
+    let room = entry_room x y w small little in
+    let at : x * w + y ≡ stage_at 0 w 0 x y = omega arith in
+    get_or-take (v * v) tb (x * w + y) o.none (omega arith) ∙ ap (λ p. get_or tb p o.none) at ∙ stands 0 (omega arith) (omega arith) x y small little ∙ ap (λ b. path_join o (across m 0 b x y)) whole))
     ∙ sym (cond-true (complete_order m.stages order) _ _ complete)

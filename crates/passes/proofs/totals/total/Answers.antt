@@ -1,5 +1,7 @@
-use Rattle.std.proofs.Common.{zero-add, rules, cond, drop, ◌≡◌, sym, ap, ◌∙◌, inl, inr, ⊎_elim, arith}
+use Rattle.std.proofs.Common.{◌+◌, zero-add, rules, cond, drop, ◌≡◌, sym, ap, ◌∙◌, inl, inr, ⊎_elim, arith}
 use Rattle.std.proofs.lemmas.List.{places, get_or_append_left}
+use Rattle.std.proofs.lemmas.List.Edits.{get_or-between}
+use Rattle.std.specs.Prelude.{slice_range}
 use Rattle.paths.specs.Paths.{before, path_join}
 use Rattle.paths.proofs.Steps.{start_forward}
 use Rattle.passes.proofs.Sums.{last_column, column_by_edges}
@@ -36,14 +38,13 @@ loop-k-preserved g c =
       λ s h. rw (c.new.ensures.trellis, c.new.ensures.number) at (c.carry_stage.ensures.made s h) ∙ column_by_edges g.met.W.Semiring.laws m (g.T.Trellis.lawful c.args.t.now) c.loop-k.columns c.loop-k.from c.loop-k.k (omega arith) c.loop-k.invariant.1 s,
     )
 
-pub last_states-requires : goal.last_states-requires
-last_states-requires g c = ⊎_elim (λ h. omega arith) (λ h. omega arith) c.loop-k.invariant.0
-
 pub returns : goal.returns
 returns g c =
     let o = g.W.Weights.ops in
     let w = g.T.Trellis.states in
     let m = g.T.Trellis.meaning c.args.t.now in
     let e : c.loop-k.k ≡ m.stages = omega arith in
+    let from = c.loop-k.from in
+    let v = c.state_count-states.result in
     c.last_states.ensures
-    ∙ last_column g.met.W.Semiring.laws m (g.T.Trellis.lawful c.args.t.now) c.loop-k.columns c.loop-k.from (λ s h. c.loop-k.invariant.1 s h ∙ ap (λ n. path_join o (before w m n s)) e)
+    ∙ last_column g.met.W.Semiring.laws m (g.T.Trellis.lawful c.args.t.now) (slice_range c.loop-k.columns from (from + v)) (λ s h. get_or-between c.loop-k.columns from (from + v) s o.none (omega arith) ∙ c.loop-k.invariant.1 s h ∙ ap (λ n. path_join o (before w m n s)) e)
