@@ -47,11 +47,11 @@ module _ {W : Type 0} {fine : W → Type 0} {o : Operations W} (laws : Semiring 
       ∙ first_to_last_is laws w m (inside law) (λ x y. path_join o (across m 0 m.stages x y)) (λ x y small little. refl)
 
   -- one column more, edge by edge
-  pub column_by_edges : (tb : List W) (from k : ℕ) → k < m.stages → ((s : ℕ) → s < w → get_or tb (from + s) o.none ≡ path_join o (before w m k s))
-      → (s : ℕ) → by_edges o tb from (m.edges k) s ≡ path_join o (before w m (k + 1) s)
-  column_by_edges tb from k here was s =
+  pub column_by_edges : (column : List W) (k : ℕ) → k < m.stages → ((s : ℕ) → s < w → get_or column s o.none ≡ path_join o (before w m k s))
+      → (s : ℕ) → by_edges o column (m.edges k) s ≡ path_join o (before w m (k + 1) s)
+  column_by_edges column k here was s =
       let test = λ (e : Edge). eqb e.to s in
-      let v : Edge → W = λ e. o.chain (get_or tb (from + e.from) o.none) (o.value e.cost) in
+      let v : Edge → W = λ e. o.chain (get_or column e.from o.none) (o.value e.cost) in
       let u : Edge → W = λ e. o.chain (path_join o (before w m k e.from)) (o.value e.cost) in
       let u_fine : (e : Edge) → fine (u e) = λ e. laws.chain_fine _ _ (joins_fine laws (before w m k e.from)) (laws.value_fine e.cost) in
       gathered_each o (Low w) test v u (λ e low. ap (λ a. o.chain a (o.value e.cost)) (was e.from low.from_low)) o.none (m.edges k) (inside law k here)

@@ -13,6 +13,6 @@ in_last o states m column = join_below o states (λ s. cond (m.last s) (slice_in
 abbrev pub from_first : {W : Type 0} → Operations W → ℕ → Meaning → List W → W
 from_first o states m metastage = join_below o states (λ s. cond (m.first s) (in_last o states m (slice_range metastage (s * states) ((s + 1) * states))) o.none)
 
--- entry s of the next column, edge by edge, from the column that lies from `from` on
-abbrev pub by_edges : {W : Type 0} → Operations W → List W → ℕ → List Edge → ℕ → W
-by_edges o tb from es s = gathered o (λ e. nat_eq e.to s) (λ e. o.chain (slice_index_or tb (from + e.from) o.none) (o.value e.cost)) o.none es
+-- entry s of the next column, edge by edge
+abbrev pub by_edges : {W : Type 0} → Operations W → List W → List Edge → ℕ → W
+by_edges o column es s = gathered o (λ e. nat_eq e.to s) (λ e. o.chain (slice_index_or column e.from o.none) (o.value e.cost)) o.none es

@@ -9,8 +9,8 @@ ghost use Rattle.passes.specs.Totals.{in_last, from_first, by_edges};
 
 use super::columns::border;
 use super::metastages::place_of;
-use super::stages::clear;
 use paths::{Semiring, Stage, Trellis, Weights};
+use std::mem;
 
 // The join of a column's entries in last states.
 fn last_states<T: Trellis, W: Weights>(t: &T, column: &[W::Value]) -> W::Value
@@ -73,31 +73,20 @@ pub fn by_levels<T: Trellis, W: Semiring>(
     first_to_last::<T, W>(t, &table[place..place + states * states])
 }
 
-// One edge: its start's entry chained with its value, joined to its end's entry.
-fn carry<W: Weights>(table: &mut [W::Value], from: usize, to: usize, cost: u32)
-    requires { (from < length table.old) × (to < length table.old) }
-    ensures { table.new ≡ slice_set table.old to (W.ops.join (slice_index_or table.old to W.ops.none) (W.ops.chain (slice_index_or table.old from W.ops.none) (W.ops.value cost))) }
-{
-    let more = W::chain(table[from], W::value(cost));
-    table[to] = W::join(table[to], more);
-}
-
 // The column behind a stage from that before it, edge by edge.
 fn carry_stage<T: Trellis, W: Weights>(
     stage: &Stage<T>,
-    table: &mut [W::Value],
-    from: usize,
-    to: usize,
+    before: &[W::Value],
+    after: &mut [W::Value],
 )
-    requires room { (from + T.states ≤ length table.old) × (to + T.states ≤ length table.old) }
-    requires apart { (from + T.states ≤ to) ⊎ (to + T.states ≤ from) }
-    ensures kept { Kept W.ops to T.states table.old table.new }
-    ensures made { (s : ℕ) → s < T.states → slice_index_or table.new (to + s) W.ops.none ≡ by_edges W.ops table.old from ((T.meaning stage.now.trellis.now).edges stage.now.number) s }
+    requires { (length before.now ≡ T.states) × (length after.old ≡ T.states) }
+    ensures { (s : ℕ) → s < T.states → slice_index_or after.new s W.ops.none ≡ by_edges W.ops before.now ((T.meaning stage.now.trellis.now).edges stage.now.number) s }
 {
-    clear::<W>(table, to, T::state_count());
+    after.fill_with(|| W::none());
     for i in 0..stage.edge_count() {
         let e = stage.edge(i);
-        carry::<W>(table, from + e.from, to + e.to, e.cost);
+        let more = W::chain(before[e.from], W::value(e.cost));
+        after[e.to] = W::join(after[e.to], more);
     }
 }
 
@@ -107,12 +96,11 @@ pub fn total<T: Trellis, W: Semiring>(t: &T, columns: &mut [W::Value]) -> W::Val
     ensures { result ≡ path_join W.Weights.ops (paths T.states (T.meaning t.now)) }
 {
     let states = T::state_count();
-    border::<W, _>(&mut columns[..states], |s| t.first(s));
-    let mut from = 0;
+    let (mut before, mut after) = columns[..states + states].split_at_mut(states);
+    border::<W, _>(before, |s| t.first(s));
     for k in 0..t.stages() {
-        let to = states - from;
-        carry_stage::<T, W>(&Stage::new(t, k), columns, from, to);
-        from = to;
+        carry_stage::<T, W>(&Stage::new(t, k), before, after);
+        mem::swap(&mut before, &mut after);
     }
-    last_states::<T, W>(t, &columns[from..from + states])
+    last_states::<T, W>(t, before)
 }

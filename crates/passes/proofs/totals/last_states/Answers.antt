@@ -24,4 +24,3 @@ loop-s-preserved g c =
       | else-last w ↦ w.x-is ∙ w.none-x.ensures ∙ ap (λ b. cond b (get_or tb s o.none) o.none) (sym w.if-last.false ∙ c.last.ensures)
     ] in
     c.join-sum.ensures ∙ ap (λ z. o.join z c.if-last.x) c.loop-s.invariant ∙ ap (o.join (join_below o s f)) value ∙ sym (below_suc o s f) ∙ ap (λ n. join_below o n f) (sym (add-one s))
-
