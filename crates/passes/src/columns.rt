@@ -18,8 +18,8 @@ pub(crate) fn dot<W: Weights>(
     ensures { result ≡ dotted W.ops states table.now from meta row }
 {
     let mut sum = W::none();
-    for x in 0..states {
-        sum = W::join(sum, W::chain(table[from + x], table[meta + x * row]));
+    for (x, left) in table[from..from + states].iter().enumerate() {
+        sum = W::join(sum, W::chain(*left, table[meta + x * row]));
     }
     sum
 }

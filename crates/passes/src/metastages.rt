@@ -101,7 +101,7 @@ pub fn place_of(base: usize, states: usize, stages: usize, level: usize, j: usiz
 {
     let mut begin = 0;
     let mut many = stages;
-    for l in 0..level {
+    for _ in 0..level {
         begin += many;
         many = (many + 1) / 2;
     }
