@@ -24,23 +24,31 @@ pub(crate) fn dot<W: Weights>(
     sum
 }
 
+// Where a metastage lies, and how far apart its rows and its columns: exchanged, these read it as the reversal does.
+#[derive(Clone, Copy)]
+pub(crate) struct Metastage {
+    pub(crate) place: usize,
+    pub(crate) row: usize,
+    pub(crate) col: usize,
+}
+
 // A whole column, from its neighbour and the metastage between them.
 pub(crate) fn column<W: Weights>(
     table: &mut [W::Value],
     from: usize,
-    meta: usize,
-    row: usize,
-    col: usize,
+    metastage: Metastage,
     to: usize,
     states: usize,
 )
     requires room { (from + states ≤ length table.old) × (to + states ≤ length table.old) × ((from + states ≤ to) ⊎ (to + states ≤ from)) }
-    requires entries { (x y : ℕ) → x < states → y < states → (meta + y * col + x * row < length table.old) × Outside to states (meta + y * col + x * row) }
+    requires entries { (x y : ℕ) → x < states → y < states → (metastage.place + y * metastage.col + x * metastage.row < length table.old) × Outside to states (metastage.place + y * metastage.col + x * metastage.row) }
     ensures kept { Kept W.ops to states table.old table.new }
-    ensures made { (y : ℕ) → y < states → slice_index_or table.new (to + y) W.ops.none ≡ dotted W.ops states table.old from (meta + y * col) row }
+    ensures made { (y : ℕ) → y < states → slice_index_or table.new (to + y) W.ops.none ≡ dotted W.ops states table.old from (metastage.place + y * metastage.col) metastage.row }
 {
+    // By index: each entry is made of others of the same table.
     for y in 0..states {
-        table[to + y] = dot::<W>(table, from, meta + y * col, row, states);
+        let meta = metastage.place + y * metastage.col;
+        table[to + y] = dot::<W>(table, from, meta, metastage.row, states);
     }
 }
 
@@ -64,10 +72,15 @@ pub fn forward<T: Trellis, W: Weights>(t: &T, table: &mut [W::Value], base: usiz
     let states = T::state_count();
     let square = states * states;
     border::<W, _>(&mut table[..states], |s| t.first(s));
+    // By index: each column is made of the one before it, in the same table.
     for k in 0..t.stages() {
         let from = k * states;
-        let meta = base + k * square;
-        column::<W>(table, from, meta, states, 1, from + states, states);
+        let metastage = Metastage {
+            place: base + k * square,
+            row: states,
+            col: 1,
+        };
+        column::<W>(table, from, metastage, from + states, states);
     }
 }
 
@@ -85,9 +98,14 @@ pub fn backward<T: Trellis, W: Weights>(t: &T, table: &mut [W::Value], base: usi
     let front = stages * states + states;
     let last = front + stages * states;
     border::<W, _>(&mut table[last..last + states], |s| t.last(s));
+    // By index: each column is made of the one behind it, in the same table.
     for k in (0..stages).rev() {
         let to = front + k * states;
-        let meta = base + k * square;
-        column::<W>(table, to + states, meta, 1, states, to, states);
+        let metastage = Metastage {
+            place: base + k * square,
+            row: 1,
+            col: states,
+        };
+        column::<W>(table, to + states, metastage, to, states);
     }
 }
