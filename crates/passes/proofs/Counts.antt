@@ -1,6 +1,7 @@
 -- How many boundaries are open, and that none is left once each was closed.
 use Rattle.std.proofs.Common.{◌≡◌, ℕ, zero, suc, ◌+◌, ◌-◌, ◌<◌, ◌≤◌, Bool, true, false, ltb, ◌≢◌, List, refl, ap, ◌∙◌, ⊎_elim, arith}
 use Rattle.std.proofs.lemmas.Bool.{cases_eq, lt-ltb, ltb-false, cases_Bool}
+use Rattle.passes.specs.declared.orders.Span.{Span}
 use Rattle.passes.specs.Orders.{ends_at}
 use Rattle.passes.proofs.Blocks.{Blocks}
 
@@ -9,12 +10,12 @@ one_if true = 1
 one_if false = 0
 
 -- of the boundaries up to k
-unfoldable pub opens : List ℕ → ℕ → ℕ
+unfoldable pub opens : List Span → ℕ → ℕ
 opens e zero = 0
 opens e (suc k) = opens e k + one_if (ltb 0 (ends_at e (suc k)))
 
 -- one more closed
-pub opens_less : (e d : List ℕ) (j k : ℕ) → 0 < j → ltb 0 (ends_at e j) ≡ true → ltb 0 (ends_at d j) ≡ false
+pub opens_less : (e d : List Span) (j k : ℕ) → 0 < j → ltb 0 (ends_at e j) ≡ true → ltb 0 (ends_at d j) ≡ false
     → ((i : ℕ) → 0 < i → i ≤ k → i ≢ j → ltb 0 (ends_at d i) ≡ ltb 0 (ends_at e i)) → ((k < j) → opens d k ≡ opens e k) × ((j ≤ k) → opens d k + 1 ≡ opens e k)
 unfolding opens
 opens_less e d j zero some was now same = (λ h. refl, λ h. absurd (omega arith))
@@ -36,7 +37,7 @@ opens_less e d j (suc k) some was now same =
           (cases_eq (suc k) j),
     )
 
-pub opens_all : (e : List ℕ) (k : ℕ) → ((i : ℕ) → 0 < i → i ≤ k → 0 < ends_at e i) → opens e k ≡ k
+pub opens_all : (e : List Span) (k : ℕ) → ((i : ℕ) → 0 < i → i ≤ k → 0 < ends_at e i) → opens e k ≡ k
 unfolding opens
 opens_all e zero all = refl
 opens_all e (suc k) all =
@@ -44,7 +45,7 @@ opens_all e (suc k) all =
     let y : one_if (ltb 0 (ends_at e (suc k))) ≡ 1 = ap (λ b. one_if b) (lt-ltb 0 (ends_at e (suc k)) (all (suc k) (omega arith) (omega arith))) in
     omega arith
 
-pub opens_none : (e : List ℕ) (k : ℕ) → opens e k ≡ 0 → (i : ℕ) → 0 < i → i ≤ k → ends_at e i ≡ 0
+pub opens_none : (e : List Span) (k : ℕ) → opens e k ≡ 0 → (i : ℕ) → 0 < i → i ≤ k → ends_at e i ≡ 0
 unfolding opens
 opens_none e zero none i p h = absurd (omega arith)
 opens_none e (suc k) none i p h =
@@ -58,7 +59,7 @@ opens_none e (suc k) none i p h =
     (cases_eq i (suc k))
 
 -- then the first block ends behind the last stage
-pub one_left : (n : ℕ) (e : List ℕ) → Blocks n e → opens e (n - 1) ≡ 0 → ends_at e 0 ≡ n
+pub one_left : (n : ℕ) (e : List Span) → Blocks n e → opens e (n - 1) ≡ 0 → ends_at e 0 ≡ n
 one_left n e sound none =
     let s = sound.some in
     let f = sound.first in

@@ -1,6 +1,6 @@
 pub mod Rows
-pub mod Questions
 pub mod Turns
+pub mod Filled
 pub mod Dots
 pub mod Rooms
 pub mod Keeps

@@ -8,14 +8,15 @@ use Rattle.paths.proofs.Gathers.{parallel_is}
 use Rattle.paths.proofs.Carried.{joins_fine}
 use Rattle.paths.proofs.Products.{stage_across, products_are_joins}
 use Rattle.passes.specs.Tables.{Outside, stage_at, Stages, dotted}
-use Rattle.passes.specs.Orders.{ends_at, begins_before, made_one}
+use Rattle.passes.specs.declared.orders.Span.{Span}
+use Rattle.passes.specs.Orders.{span_at, ends_at, begins_before, made_one}
 use Rattle.passes.proofs.Rows.{row_under}
 use Rattle.passes.proofs.Rooms.{entry_room}
 use Rattle.passes.proofs.Dots.{dotted_joins}
 use Rattle.passes.proofs.Blocks.{Blocks, first_low, last_high, last_low, at_first, was_open, ends_kept}
 
 -- entry s, t joins the walks from s to t across the block
-abbrev pub Standing : {W : Type 0} → Operations W → ℕ → Meaning → ℕ → List ℕ → List W → Type 0
+abbrev pub Standing : {W : Type 0} → Operations W → ℕ → Meaning → ℕ → List Span → List W → Type 0
 Standing o w m n e tb = (a : ℕ) → a < n → 0 < ends_at e a → (s t : ℕ) → s < w → t < w → get_or tb (stage_at 0 w a s t) o.none ≡ path_join o (across m a (ends_at e a) s t)
 
 -- another slot
@@ -29,16 +30,16 @@ apart w a b s t ne small little =
 
 module _ {W : Type 0} {fine : W → Type 0} {o : Operations W} (laws : Semiring fine o) (w : ℕ) (m : Meaning) (n : ℕ) (few : n ≤ m.stages) where
   -- at first each stage is a block
-  pub stages_stand : (e : List ℕ) (tb : List W) → Stages o w m 0 tb → ((k : ℕ) → k < n → get_or e k 0 ≡ k + 1) → Standing o w m n e tb
+  pub stages_stand : (e : List Span) (tb : List W) → Stages o w m 0 tb → ((k : ℕ) → k < n → span_at e k ≡ record { end = k + 1; begin = k }) → Standing o w m n e tb
   stages_stand e tb stand single a h open-here s t small little =
-      let ends : suc a ≡ ends_at e a = (let x = single a h in omega arith) in
+      let ends : suc a ≡ ends_at e a = (let x = ap (λ s. s.end) (single a h) in omega arith) in
       stand a s t (omega arith) small little ∙ parallel_is laws (m.edges a) s t ∙ stage_across laws w m a s t ∙ ap (λ b. path_join o (across m a b s t)) ends
 
-  module _ {ceiling bits : ℕ} (law : Lawful w ceiling bits m) (e : List ℕ) (sound : Blocks n e) (j : ℕ) (some : 0 < j) (low : j < n) (open-here : 0 < ends_at e j) (old new : List W) (was : Standing o w m n e old) where
+  module _ {ceiling bits : ℕ} (law : Lawful w ceiling bits m) (e : List Span) (sound : Blocks n e) (j : ℕ) (some : 0 < j) (low : j < n) (open-here : 0 < ends_at e j) (old new : List W) (was : Standing o w m n e old) where
     -- the entry of two blocks made one
-    both : (s t : ℕ) → s < w → t < w → dotted o w old (begins_before n e j * (w * w) + s * w) (j * (w * w) + t) w ≡ path_join o (across m (begins_before n e j) (ends_at e j) s t)
+    both : (s t : ℕ) → s < w → t < w → dotted o w old (begins_before e j * (w * w) + s * w) (j * (w * w) + t) w ≡ path_join o (across m (begins_before e j) (ends_at e j) s t)
     both s t small little =
-        let a = begins_before n e j in
+        let a = begins_before e j in
         let f = first_low n e sound j some low open-here in
         let g = last_high n e sound j some low open-here in
         let h = last_low n e sound j some low open-here in
@@ -52,18 +53,18 @@ module _ {W : Type 0} {fine : W → Type 0} {o : Operations W} (laws : Semiring 
         ap (λ p. get_or old p o.none) at ∙ was j low open-here v t lt little)
         ∙ products_are_joins laws w ceiling bits m law a j (ends_at e j) (omega arith) (omega arith) (omega arith) s t small little
 
-    pub one_stands : ((p : ℕ) → p < n * (w * w) → Outside (begins_before n e j * (w * w)) (w * w) p → get_or new p o.none ≡ get_or old p o.none)
-        → ((s t : ℕ) → s < w → t < w → get_or new (begins_before n e j * (w * w) + (s * w + t)) o.none ≡ dotted o w old (begins_before n e j * (w * w) + s * w) (j * (w * w) + t) w)
-        → Standing o w m n (made_one n e j) new
+    pub one_stands : ((p : ℕ) → p < n * (w * w) → Outside (begins_before e j * (w * w)) (w * w) p → get_or new p o.none ≡ get_or old p o.none)
+        → ((s t : ℕ) → s < w → t < w → get_or new (begins_before e j * (w * w) + (s * w + t)) o.none ≡ dotted o w old (begins_before e j * (w * w) + s * w) (j * (w * w) + t) w)
+        → Standing o w m n (made_one e j) new
     one_stands kept made a h o2 s t small little =
-        let x = begins_before n e j in
+        let x = begins_before e j in
         ⊎_elim
         (λ q.
         let r : a * (w * w) ≡ x * (w * w) = ap (λ a. a * (w * w)) q in
         let at : stage_at 0 w a s t ≡ x * (w * w) + (s * w + t) = omega arith in
         ap (λ p. get_or new p o.none) at ∙ made s t small little ∙ both s t small little
-        ∙ ap (λ b. path_join o (across m x b s t)) (sym (ap (ends_at (made_one n e j)) q ∙ at_first n e sound j some low open-here))
-        ∙ ap (λ c. path_join o (across m c (ends_at (made_one n e j) a) s t)) (sym q))
+        ∙ ap (λ b. path_join o (across m x b s t)) (sym (ap (ends_at (made_one e j)) q ∙ at_first n e sound j some low open-here))
+        ∙ ap (λ c. path_join o (across m c (ends_at (made_one e j) a) s t)) (sym q))
         (λ q.
         let r = row_under a n (w * w) h in
         let u = entry_room s t w small little in
@@ -73,5 +74,5 @@ module _ {W : Type 0} {fine : W → Type 0} {o : Operations W} (laws : Semiring 
         (cases_eq a x)
 
 -- the places of the two blocks, and a spare place behind all
-pub places : (n : ℕ) (e : List ℕ) (sound : Blocks n e) (j : ℕ) → 0 < j → j < n → 0 < ends_at e j → (q : ℕ) → (begins_before n e j * q + q ≤ j * q) × (j * q + q ≤ n * q)
-places n e sound j some low open-here q = (row_under (begins_before n e j) j q (first_low n e sound j some low open-here), row_under j n q low)
+pub places : (n : ℕ) (e : List Span) (sound : Blocks n e) (j : ℕ) → 0 < j → j < n → 0 < ends_at e j → (q : ℕ) → (begins_before e j * q + q ≤ j * q) × (j * q + q ≤ n * q)
+places n e sound j some low open-here q = (row_under (begins_before e j) j q (first_low n e sound j some low open-here), row_under j n q low)

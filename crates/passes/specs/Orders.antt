@@ -1,5 +1,6 @@
 -- The orders in which neighbouring stages are made one: boundary j lies between stage j - 1 and stage j.
-use Rattle.std.specs.Prelude.{ℕ, ◌+◌, ◌-◌, Bool, true, false, not, ◌&&◌, ◌||◌, List, [], ◌∷◌, length, ◌==◌, nat_lt, slice_index, slice_set}
+use Rattle.std.specs.Prelude.{ℕ, ◌-◌, Bool, true, false, not, ◌&&◌, ◌||◌, List, [], ◌∷◌, length, ◌==◌, nat_lt, slice_index_or, slice_set}
+use Rattle.passes.specs.declared.orders.Span.{Span}
 
 -- every entry is a boundary of n stages
 unfoldable pub within : ℕ → List ℕ → Bool
@@ -18,18 +19,27 @@ none_twice (x ∷ xs) = not (stands_in x xs) && none_twice xs
 abbrev pub complete_order : ℕ → List ℕ → Bool
 complete_order n order = length order == n - 1 && (within n order && none_twice order)
 
--- what is remembered of blocks of neighbours made one: at a block's first stage where it ends, at any other stage 0;
--- and n places on, at a block's last stage, where it begins
-abbrev pub ends_at : List ℕ → ℕ → ℕ
-ends_at e a = slice_index e a
+-- what is remembered of blocks of neighbours made one: with a block's first stage where it ends, with any other stage 0;
+-- and with a block's last stage where it begins
+abbrev pub span_at : List Span → ℕ → Span
+span_at s a = slice_index_or s a (record { end = 0; begin = 0 })
 
-abbrev pub begins_before : ℕ → List ℕ → ℕ → ℕ
-begins_before n e j = slice_index e (n + (j - 1))
+abbrev pub ends_at : List Span → ℕ → ℕ
+ends_at s a = (span_at s a).end
+
+abbrev pub begins_before : List Span → ℕ → ℕ
+begins_before s j = (span_at s (j - 1)).begin
 
 -- j is a boundary, and blocks end and begin there
-abbrev pub is_open : ℕ → List ℕ → ℕ → Bool
-is_open n e j = nat_lt 0 j && (nat_lt j n && nat_lt 0 (ends_at e j))
+abbrev pub is_open : ℕ → List Span → ℕ → Bool
+is_open n s j = nat_lt 0 j && (nat_lt j n && nat_lt 0 (ends_at s j))
+
+abbrev pub with_end : List Span → ℕ → ℕ → List Span
+with_end s a end = slice_set s a (record (span_at s a) { end = end })
+
+abbrev pub with_begin : List Span → ℕ → ℕ → List Span
+with_begin s a begin = slice_set s a (record (span_at s a) { begin = begin })
 
 -- the blocks on both sides of boundary j made one
-abbrev pub made_one : ℕ → List ℕ → ℕ → List ℕ
-made_one n e j = slice_set (slice_set (slice_set e (begins_before n e j) (ends_at e j)) (n + (ends_at e j - 1)) (begins_before n e j)) j 0
+abbrev pub made_one : List Span → ℕ → List Span
+made_one s j = with_end (with_begin (with_end s (begins_before s j) (ends_at s j)) (ends_at s j - 1) (begins_before s j)) j 0

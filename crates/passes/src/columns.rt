@@ -1,6 +1,6 @@
 //! Forward and backward columns, from the metastages of the stages.
 
-ghost use Rattle.std.specs.Prelude.{◌≡◌, ℕ, ◌+◌, ◌*◌, ◌<◌, ◌≤◌, ◌⊎◌, length, if◌then◌else◌, slice_index_or};
+ghost use Rattle.std.specs.Prelude.{◌≡◌, ℕ, ◌+◌, ◌*◌, ◌<◌, ◌≤◌, ◌⊎◌, Bool, length, if◌then◌else◌, slice_index_or};
 ghost use Rattle.passes.specs.Tables.{Outside, Kept, columns_size, Stages, Forward, Backward, dotted};
 
 use paths::{Trellis, Weights};
@@ -18,51 +18,47 @@ pub(crate) fn dot<W: Weights>(
     ensures { result ≡ dotted W.ops states table.now from meta row }
 {
     let mut sum = W::none();
-    for x in 0..states {
-        sum = W::join(sum, W::chain(table[from + x], table[meta + x * row]));
+    for (x, left) in table[from..from + states].iter().enumerate() {
+        sum = W::join(sum, W::chain(*left, table[meta + x * row]));
     }
     sum
+}
+
+// Where a metastage lies, and how far apart its rows and its columns: exchanged, these read it as the reversal does.
+#[derive(Clone, Copy)]
+pub(crate) struct Metastage {
+    pub(crate) place: usize,
+    pub(crate) row: usize,
+    pub(crate) col: usize,
 }
 
 // A whole column, from its neighbour and the metastage between them.
 pub(crate) fn column<W: Weights>(
     table: &mut [W::Value],
     from: usize,
-    meta: usize,
-    row: usize,
-    col: usize,
+    metastage: Metastage,
     to: usize,
     states: usize,
 )
     requires room { (from + states ≤ length table.old) × (to + states ≤ length table.old) × ((from + states ≤ to) ⊎ (to + states ≤ from)) }
-    requires entries { (x y : ℕ) → x < states → y < states → (meta + y * col + x * row < length table.old) × Outside to states (meta + y * col + x * row) }
+    requires entries { (x y : ℕ) → x < states → y < states → (metastage.place + y * metastage.col + x * metastage.row < length table.old) × Outside to states (metastage.place + y * metastage.col + x * metastage.row) }
     ensures kept { Kept W.ops to states table.old table.new }
-    ensures made { (y : ℕ) → y < states → slice_index_or table.new (to + y) W.ops.none ≡ dotted W.ops states table.old from (meta + y * col) row }
+    ensures made { (y : ℕ) → y < states → slice_index_or table.new (to + y) W.ops.none ≡ dotted W.ops states table.old from (metastage.place + y * metastage.col) metastage.row }
 {
+    // By index: each entry is made of others of the same table.
     for y in 0..states {
-        table[to + y] = dot::<W>(table, from, meta + y * col, row, states);
+        let meta = metastage.place + y * metastage.col;
+        table[to + y] = dot::<W>(table, from, meta, metastage.row, states);
     }
 }
 
-// The column before the first stage.
-pub(crate) fn start<T: Trellis, W: Weights>(t: &T, table: &mut [W::Value], to: usize)
-    requires { to + T.states ≤ length table.old }
-    ensures kept { Kept W.ops to T.states table.old table.new }
-    ensures made { (s : ℕ) → s < T.states → slice_index_or table.new (to + s) W.ops.none ≡ (if (T.meaning t.now).first s then W.ops.unit else W.ops.none) }
+// The column before the first stage or behind the last: unit where a path may begin, or end.
+pub(crate) fn border<W: Weights, F: Fn(usize) -> bool>(column: &mut [W::Value], may: F)
+    requires { F.IsAlwaysCallable may }
+    ensures { (s : ℕ) → s < length column.old → (b : Bool) × F.post may s b × (slice_index_or column.new s W.ops.none ≡ (if b then W.ops.unit else W.ops.none)) }
 {
-    for s in 0..T::state_count() {
-        table[to + s] = if t.first(s) { W::unit() } else { W::none() };
-    }
-}
-
-// The column behind the last stage.
-fn finish<T: Trellis, W: Weights>(t: &T, table: &mut [W::Value], to: usize)
-    requires { to + T.states ≤ length table.old }
-    ensures kept { Kept W.ops to T.states table.old table.new }
-    ensures made { (s : ℕ) → s < T.states → slice_index_or table.new (to + s) W.ops.none ≡ (if (T.meaning t.now).last s then W.ops.unit else W.ops.none) }
-{
-    for s in 0..T::state_count() {
-        table[to + s] = if t.last(s) { W::unit() } else { W::none() };
+    for (s, x) in column.iter_mut().enumerate() {
+        *x = if may(s) { W::unit() } else { W::none() };
     }
 }
 
@@ -75,11 +71,16 @@ pub fn forward<T: Trellis, W: Weights>(t: &T, table: &mut [W::Value], base: usiz
 {
     let states = T::state_count();
     let square = states * states;
-    start::<T, W>(t, table, 0);
+    border::<W, _>(&mut table[..states], |s| t.first(s));
+    // By index: each column is made of the one before it, in the same table.
     for k in 0..t.stages() {
         let from = k * states;
-        let meta = base + k * square;
-        column::<W>(table, from, meta, states, 1, from + states, states);
+        let metastage = Metastage {
+            place: base + k * square,
+            row: states,
+            col: 1,
+        };
+        column::<W>(table, from, metastage, from + states, states);
     }
 }
 
@@ -95,10 +96,16 @@ pub fn backward<T: Trellis, W: Weights>(t: &T, table: &mut [W::Value], base: usi
     let square = states * states;
     let stages = t.stages();
     let front = stages * states + states;
-    finish::<T, W>(t, table, front + stages * states);
+    let last = front + stages * states;
+    border::<W, _>(&mut table[last..last + states], |s| t.last(s));
+    // By index: each column is made of the one behind it, in the same table.
     for k in (0..stages).rev() {
         let to = front + k * states;
-        let meta = base + k * square;
-        column::<W>(table, to + states, meta, 1, states, to, states);
+        let metastage = Metastage {
+            place: base + k * square,
+            row: 1,
+            col: states,
+        };
+        column::<W>(table, to + states, metastage, to, states);
     }
 }

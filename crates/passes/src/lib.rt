@@ -10,6 +10,6 @@ mod totals;
 
 pub use columns::{backward, forward};
 pub use metastages::{levels, place_of};
-pub use orders::by_order;
+pub use orders::{Span, by_order};
 pub use stages::lay_stages;
 pub use totals::{by_columns, by_levels, total};

@@ -5,7 +5,7 @@ ghost use Rattle.paths.specs.Metastages.{level_size, metastage_at};
 ghost use Rattle.passes.specs.Tables.{Beside, Kept, Stages, dotted};
 ghost use Rattle.passes.specs.Levels.{Levels, levels_room};
 
-use super::columns::column;
+use super::columns::{Metastage, column};
 use paths::{Semiring, Trellis, Weights};
 
 // The same numbers in another place.
@@ -15,9 +15,7 @@ pub(crate) fn copy<W: Weights>(table: &mut [W::Value], from: usize, to: usize, m
     ensures kept { Kept W.ops to many table.old table.new }
     ensures same { (i : ℕ) → i < many → slice_index_or table.new (to + i) W.ops.none ≡ slice_index_or table.old (from + i) W.ops.none }
 {
-    for i in 0..many {
-        table[to + i] = table[from + i];
-    }
+    table.copy_within(from..from + many, to);
 }
 
 // Two neighbouring metastages made one, row by row as columns are made.
@@ -33,16 +31,14 @@ pub(crate) fn product<W: Weights>(
     ensures kept { Kept W.ops to (states * states) table.old table.new }
     ensures made { (s t : ℕ) → s < states → t < states → slice_index_or table.new (to + (s * states + t)) W.ops.none ≡ dotted W.ops states table.old (left + s * states) (right + t) states }
 {
+    let metastage = Metastage {
+        place: right,
+        row: states,
+        col: 1,
+    };
+    // By index: each row is made of two parts of the same table.
     for s in 0..states {
-        column::<W>(
-            table,
-            left + s * states,
-            right,
-            states,
-            1,
-            to + s * states,
-            states,
-        );
+        column::<W>(table, left + s * states, metastage, to + s * states, states);
     }
 }
 
@@ -56,6 +52,7 @@ fn pairs<W: Weights>(table: &mut [W::Value], from: usize, to: usize, many: usize
     ensures odd { many % 2 ≡ 1 → (i : ℕ) → i < states * states → slice_index_or table.new (to + many / 2 * (states * states) + i) W.ops.none ≡ slice_index_or table.old (from + (many - 1) * (states * states) + i) W.ops.none }
 {
     let square = states * states;
+    // By index: each product is made of two neighbours in the same table.
     for j in 0..many / 2 {
         let left = from + 2 * j * square;
         product::<W>(table, left, left + square, to + j * square, states);
@@ -103,7 +100,7 @@ pub fn place_of(base: usize, states: usize, stages: usize, level: usize, j: usiz
 {
     let mut begin = 0;
     let mut many = stages;
-    for l in 0..level {
+    for _ in 0..level {
         begin += many;
         many = (many + 1) / 2;
     }

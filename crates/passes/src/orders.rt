@@ -1,33 +1,39 @@
 //! Any grouping of neighbouring stages: made one at the boundaries between them, in any order.
 
-ghost use Rattle.std.specs.Prelude.{◌≡◌, ℕ, ◌+◌, ◌-◌, ◌*◌, ◌<◌, ◌≤◌, length, if◌then◌else◌, Some, None, slice_index, slice_index_or};
+ghost use Rattle.std.specs.Prelude.{◌≡◌, ℕ, ◌+◌, ◌-◌, ◌*◌, ◌<◌, ◌≤◌, length, if◌then◌else◌, Some, None, slice_index_or};
 ghost use Rattle.paths.specs.Paths.{paths, path_join};
 ghost use Rattle.passes.specs.Tables.{Outside, dotted};
-ghost use Rattle.passes.specs.Orders.{complete_order, ends_at, begins_before, is_open, made_one};
+ghost use Rattle.passes.specs.Orders.{complete_order, span_at, ends_at, begins_before, is_open, made_one};
 
 use super::metastages::{copy, product};
 use super::stages::lay_stages;
 use super::totals::first_to_last;
 use paths::{Semiring, Trellis, Weights};
 
+/// What is remembered of a stage: where the block that begins with it ends, 0 where none begins, and where the block that ends with it begins.
+#[derive(Clone, Copy, PartialEq, Eq, Debug)]
+pub struct Span {
+    pub end: usize,
+    pub begin: usize,
+}
+
 // Each stage is a block of its own.
-fn single_blocks(ends: &mut [usize], stages: usize)
-    requires { (stages ≤ 16384) × (stages + stages ≤ length ends.old) }
-    ensures first { (k : ℕ) → k < stages → slice_index ends.new k ≡ k + 1 }
-    ensures last { (k : ℕ) → k < stages → slice_index ends.new (stages + k) ≡ k }
+fn single_blocks(spans: &mut [Span])
+    ensures { (k : ℕ) → k < length spans.old → span_at spans.new k ≡ record { end = k + 1; begin = k } }
 {
-    for k in 0..stages {
-        ends[k] = k + 1;
-        ends[stages + k] = k;
+    for (k, span) in spans.iter_mut().enumerate() {
+        *span = Span {
+            end: k + 1,
+            begin: k,
+        };
     }
 }
 
 // Whether `j` is a boundary at which blocks still end and begin.
-fn is_open(ends: &[usize], j: usize, stages: usize) -> bool
-    requires { stages ≤ length ends.now }
-    ensures { result ≡ is_open stages ends.now j }
+fn is_open(spans: &[Span], j: usize) -> bool
+    ensures { result ≡ is_open (length spans.now) spans.now j }
 {
-    0 < j && j < stages && 0 < ends[j]
+    0 < j && j < spans.len() && 0 < spans[j].end
 }
 
 // Two metastages made one in the earlier's place, by way of a spare place.
@@ -47,29 +53,29 @@ fn replace<W: Weights>(
 }
 
 // Remembers that the blocks on both sides of boundary `j` are one.
-fn close(ends: &mut [usize], j: usize, stages: usize)
-    requires boundary { (0 < j) × (j < stages) }
-    requires sound { (begins_before stages ends.old j < stages) × (0 < ends_at ends.old j) × (ends_at ends.old j ≤ stages) }
-    requires room { stages + stages ≤ length ends.old }
-    ensures { ends.new ≡ made_one stages ends.old j }
+fn close(spans: &mut [Span], j: usize)
+    requires boundary { (0 < j) × (j < length spans.old) }
+    requires sound { (begins_before spans.old j < length spans.old) × (0 < ends_at spans.old j) × (ends_at spans.old j ≤ length spans.old) }
+    ensures { spans.new ≡ made_one spans.old j }
 {
-    let first = ends[stages + (j - 1)];
-    let last = ends[j];
-    ends[first] = last;
-    ends[stages + (last - 1)] = first;
-    ends[j] = 0;
+    let first = spans[j - 1].begin;
+    let last = spans[j].end;
+    spans[first].end = last;
+    spans[last - 1].begin = first;
+    spans[j].end = 0;
 }
 
 /// The join over all paths, by any grouping: makes one of the neighbours on both sides of each boundary, in the given order.
-/// Answers None unless the order has each boundary once and nothing else. The table needs room for one metastage more than there are stages.
+/// Answers None unless the order has each boundary once and nothing else. The table needs room for one metastage more than there are stages,
+/// and there is a span for each stage.
 pub fn by_order<T: Trellis, W: Semiring>(
     t: &T,
     order: &[usize],
     table: &mut [W::Value],
-    ends: &mut [usize],
+    spans: &mut [Span],
 ) -> Option<W::Value>
     requires table { (T.meaning t.now).stages * (T.states * T.states) + T.states * T.states ≤ length table.old }
-    requires ends { 2 * (T.meaning t.now).stages ≤ length ends.old }
+    requires spans { (T.meaning t.now).stages ≤ length spans.old }
     ensures { result ≡ (if complete_order (T.meaning t.now).stages order.now then Some (path_join W.Weights.ops (paths T.states (T.meaning t.now))) else None) }
 {
     let states = T::state_count();
@@ -78,15 +84,16 @@ pub fn by_order<T: Trellis, W: Semiring>(
     if order.len() != stages - 1 {
         return None;
     }
+    let spans = &mut spans[..stages];
     lay_stages::<T, W>(t, table, 0);
-    single_blocks(ends, stages);
+    single_blocks(spans);
     for j in order {
-        if !is_open(ends, *j, stages) {
+        if !is_open(spans, *j) {
             return None;
         }
-        let first = ends[stages + (*j - 1)];
+        let first = spans[*j - 1].begin;
         replace::<W>(table, first * square, *j * square, stages * square, states);
-        close(ends, *j, stages);
+        close(spans, *j);
     }
-    Some(first_to_last::<T, W>(t, table, 0))
+    Some(first_to_last::<T, W>(t, &table[..square]))
 }

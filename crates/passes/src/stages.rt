@@ -4,49 +4,30 @@ ghost use Rattle.std.specs.Prelude.{◌≡◌, ℕ, ◌+◌, ◌*◌, ◌<◌, �
 ghost use Rattle.paths.specs.Columns.{parallel};
 ghost use Rattle.passes.specs.Tables.{Kept, Stages};
 
-use paths::{Trellis, Weights};
-
-// Lays none into `many` places.
-pub(crate) fn clear<W: Weights>(table: &mut [W::Value], start: usize, many: usize)
-    requires { start + many ≤ length table.old }
-    ensures kept { Kept W.ops start many table.old table.new }
-    ensures clear { (i : ℕ) → i < many → slice_index_or table.new (start + i) W.ops.none ≡ W.ops.none }
-{
-    for i in 0..many {
-        table[start + i] = W::none();
-    }
-}
+use paths::{Stage, Trellis, Weights};
 
 // Joins the value of a cost to an entry: one of several parallel edges.
-fn relax<W: Weights>(table: &mut [W::Value], to: usize, cost: u32)
-    requires { to < length table.old }
-    ensures { table.new ≡ slice_set table.old to (W.ops.join (slice_index_or table.old to W.ops.none) (W.ops.value cost)) }
+fn relax<W: Weights>(entry: &mut W::Value, cost: u32)
+    ensures { entry.new ≡ W.ops.join entry.old (W.ops.value cost) }
 {
-    table[to] = W::join(table[to], W::value(cost));
+    *entry = W::join(*entry, W::value(cost));
 }
 
-// The metastage of stage `k`: the costs are asked at once, then each edge for its two states.
+// The metastage of a stage: the costs are asked at once, then each edge for its two states.
 fn lay_stage<T: Trellis, W: Weights>(
-    t: &T,
-    k: usize,
+    stage: &Stage<T>,
     costs: &mut [u32; 512],
-    table: &mut [W::Value],
-    to: usize,
+    metastage: &mut [W::Value],
 )
-    requires stage { k < (T.meaning t.now).stages }
-    requires room { to + T.states * T.states ≤ length table.old }
-    ensures kept { Kept W.ops to (T.states * T.states) table.old table.new }
-    ensures made { (x y : ℕ) → x < T.states → y < T.states → slice_index_or table.new (to + (x * T.states + y)) W.ops.none ≡ parallel W.ops ((T.meaning t.now).edges k) x y }
+    requires { length metastage.old ≡ T.states * T.states }
+    ensures { (x y : ℕ) → x < T.states → y < T.states → slice_index_or metastage.new (x * T.states + y) W.ops.none ≡ parallel W.ops ((T.meaning stage.now.trellis.now).edges stage.now.number) x y }
 {
     let states = T::state_count();
-    clear::<W>(table, to, states * states);
-    let Some(count) = t.edge_count(k) else {
-        unreachable()
-    };
-    t.costs(k, costs);
-    for i in 0..count {
-        let Some(e) = t.edge(k, i) else { unreachable() };
-        relax::<W>(table, to + (e.from * states + e.to), costs[i]);
+    metastage.fill_with(|| W::none());
+    stage.costs(costs);
+    for (i, cost) in costs[..stage.edge_count()].iter().enumerate() {
+        let e = stage.edge(i);
+        relax::<W>(&mut metastage[e.from * states + e.to], *cost);
     }
 }
 
@@ -60,6 +41,11 @@ pub fn lay_stages<T: Trellis, W: Weights>(t: &T, table: &mut [W::Value], base: u
     let square = states * states;
     let mut costs = [0; 512];
     for k in 0..t.stages() {
-        lay_stage::<T, W>(t, k, &mut costs, table, base + k * square);
+        let place = base + k * square;
+        lay_stage::<T, W>(
+            &Stage::new(t, k),
+            &mut costs,
+            &mut table[place..place + square],
+        );
     }
 }

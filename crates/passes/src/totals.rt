@@ -7,38 +7,35 @@ ghost use Rattle.passes.specs.Tables.{Kept, columns_size, Forward};
 ghost use Rattle.passes.specs.Levels.{Levels, levels_room};
 ghost use Rattle.passes.specs.Totals.{in_last, from_first, by_edges};
 
-use super::columns::start;
+use super::columns::border;
 use super::metastages::place_of;
-use super::stages::clear;
-use paths::{Semiring, Trellis, Weights};
+use paths::{Semiring, Stage, Trellis, Weights};
+use std::mem;
 
 // The join of a column's entries in last states.
-fn last_states<T: Trellis, W: Weights>(t: &T, table: &[W::Value], at: usize) -> W::Value
-    requires { at + T.states ≤ length table.now }
-    ensures { result ≡ in_last W.ops T.states (T.meaning t.now) table.now at }
+fn last_states<T: Trellis, W: Weights>(t: &T, column: &[W::Value]) -> W::Value
+    requires { length column.now ≡ T.states }
+    ensures { result ≡ in_last W.ops T.states (T.meaning t.now) column.now }
 {
     let mut sum = W::none();
-    for s in 0..T::state_count() {
-        let x = if t.last(s) { table[at + s] } else { W::none() };
+    for (s, x) in column.iter().enumerate() {
+        let x = if t.last(s) { *x } else { W::none() };
         sum = W::join(sum, x);
     }
     sum
 }
 
 // The join of a metastage's entries from first to last states.
-pub(crate) fn first_to_last<T: Trellis, W: Weights>(
-    t: &T,
-    table: &[W::Value],
-    at: usize,
-) -> W::Value
-    requires { at + T.states * T.states ≤ length table.now }
-    ensures { result ≡ from_first W.ops T.states (T.meaning t.now) table.now at }
+pub(crate) fn first_to_last<T: Trellis, W: Weights>(t: &T, metastage: &[W::Value]) -> W::Value
+    requires { length metastage.now ≡ T.states * T.states }
+    ensures { result ≡ from_first W.ops T.states (T.meaning t.now) metastage.now }
 {
     let states = T::state_count();
     let mut sum = W::none();
+    // By `chunks_exact(states).enumerate()` the proof did not close: that the iterator counts no further than its rows was not found.
     for s in 0..states {
         let x = if t.first(s) {
-            last_states::<T, W>(t, table, at + s * states)
+            last_states::<T, W>(t, &metastage[s * states..(s + 1) * states])
         } else {
             W::none()
         };
@@ -53,7 +50,9 @@ pub fn by_columns<T: Trellis, W: Semiring>(t: &T, table: &[W::Value]) -> W::Valu
     requires made { Forward W.Weights.ops T.states (T.meaning t.now) table.now }
     ensures { result ≡ path_join W.Weights.ops (paths T.states (T.meaning t.now)) }
 {
-    last_states::<T, W>(t, table, t.stages() * T::state_count())
+    let states = T::state_count();
+    let last = t.stages() * states;
+    last_states::<T, W>(t, &table[last..last + states])
 }
 
 /// The join over all paths, from the levels of metastages: the one of the last level, from first to last states.
@@ -69,43 +68,25 @@ pub fn by_levels<T: Trellis, W: Semiring>(
     requires made { Levels W.Weights.ops T.states (T.meaning t.now) base level table.now }
     ensures { result ≡ path_join W.Weights.ops (paths T.states (T.meaning t.now)) }
 {
-    first_to_last::<T, W>(
-        t,
-        table,
-        place_of(base, T::state_count(), t.stages(), level, 0),
-    )
+    let states = T::state_count();
+    let place = place_of(base, states, t.stages(), level, 0);
+    first_to_last::<T, W>(t, &table[place..place + states * states])
 }
 
-// One edge: its start's entry chained with its value, joined to its end's entry.
-fn carry<W: Weights>(table: &mut [W::Value], from: usize, to: usize, cost: u32)
-    requires { (from < length table.old) × (to < length table.old) }
-    ensures { table.new ≡ slice_set table.old to (W.ops.join (slice_index_or table.old to W.ops.none) (W.ops.chain (slice_index_or table.old from W.ops.none) (W.ops.value cost))) }
-{
-    let more = W::chain(table[from], W::value(cost));
-    table[to] = W::join(table[to], more);
-}
-
-// The next column, edge by edge.
+// The column behind a stage from that before it, edge by edge.
 fn carry_stage<T: Trellis, W: Weights>(
-    t: &T,
-    k: usize,
-    table: &mut [W::Value],
-    from: usize,
-    to: usize,
+    stage: &Stage<T>,
+    before: &[W::Value],
+    after: &mut [W::Value],
 )
-    requires stage { k < (T.meaning t.now).stages }
-    requires room { (from + T.states ≤ length table.old) × (to + T.states ≤ length table.old) }
-    requires apart { (from + T.states ≤ to) ⊎ (to + T.states ≤ from) }
-    ensures kept { Kept W.ops to T.states table.old table.new }
-    ensures made { (s : ℕ) → s < T.states → slice_index_or table.new (to + s) W.ops.none ≡ by_edges W.ops table.old from ((T.meaning t.now).edges k) s }
+    requires { (length before.now ≡ T.states) × (length after.old ≡ T.states) }
+    ensures { (s : ℕ) → s < T.states → slice_index_or after.new s W.ops.none ≡ by_edges W.ops before.now ((T.meaning stage.now.trellis.now).edges stage.now.number) s }
 {
-    clear::<W>(table, to, T::state_count());
-    let Some(count) = t.edge_count(k) else {
-        unreachable()
-    };
-    for i in 0..count {
-        let Some(e) = t.edge(k, i) else { unreachable() };
-        carry::<W>(table, from + e.from, to + e.to, e.cost);
+    after.fill_with(|| W::none());
+    for i in 0..stage.edge_count() {
+        let e = stage.edge(i);
+        let more = W::chain(before[e.from], W::value(e.cost));
+        after[e.to] = W::join(after[e.to], more);
     }
 }
 
@@ -115,12 +96,11 @@ pub fn total<T: Trellis, W: Semiring>(t: &T, columns: &mut [W::Value]) -> W::Val
     ensures { result ≡ path_join W.Weights.ops (paths T.states (T.meaning t.now)) }
 {
     let states = T::state_count();
-    start::<T, W>(t, columns, 0);
-    let mut from = 0;
+    let (mut before, mut after) = columns[..states + states].split_at_mut(states);
+    border::<W, _>(before, |s| t.first(s));
     for k in 0..t.stages() {
-        let to = states - from;
-        carry_stage::<T, W>(t, k, columns, from, to);
-        from = to;
+        carry_stage::<T, W>(&Stage::new(t, k), before, after);
+        mem::swap(&mut before, &mut after);
     }
-    last_states::<T, W>(t, columns, from)
+    last_states::<T, W>(t, before)
 }

@@ -2,7 +2,7 @@
 
 ghost use Rattle.std.specs.Prelude.{◌≡◌, ◌≤◌, length};
 
-use passes::{by_order, total};
+use passes::{Span, by_order, total};
 use paths::{LeastCostWithTies, Tied};
 use std::io;
 use trellises::Inner;
@@ -17,11 +17,11 @@ pub(crate) fn show_groupings(rt: &HostRuntime) -> anyhow::Result<()> {
         count: 0,
     };
     let mut table = vec![in rt.alloc(); none; 64]?;
-    let mut ends = vec![in rt.alloc(); 0usize; 16]?;
+    let mut spans = vec![in rt.alloc(); Span { end: 0, begin: 0 }; 8]?;
     let all = two_columns(&t, table.as_mut_slice());
     println!(rt; "two columns: cost {} ties {}", all.cost, all.count)?;
     let table = table.as_mut_slice();
-    let ends = ends.as_mut_slice();
+    let spans = spans.as_mut_slice();
     let orders: [&[usize]; 5] = [
         &[1, 2, 3, 4],
         &[4, 3, 2, 1],
@@ -30,7 +30,7 @@ pub(crate) fn show_groupings(rt: &HostRuntime) -> anyhow::Result<()> {
         &[1, 1, 2, 3],
     ];
     for order in orders {
-        show_order(rt, order, one_order(&t, order, table, ends))?;
+        show_order(rt, order, one_order(&t, order, table, spans))?;
     }
     Ok(())
 }
@@ -41,10 +41,10 @@ fn two_columns(t: &Inner, table: &mut [Tied]) -> Tied
     total::<Inner, LeastCostWithTies>(t, table)
 }
 
-fn one_order(t: &Inner, order: &[usize], table: &mut [Tied], ends: &mut [usize]) -> Option<Tied>
-    requires { (t.now.n ≡ 5) × (24 ≤ length table.old) × (10 ≤ length ends.old) }
+fn one_order(t: &Inner, order: &[usize], table: &mut [Tied], spans: &mut [Span]) -> Option<Tied>
+    requires { (t.now.n ≡ 5) × (24 ≤ length table.old) × (5 ≤ length spans.old) }
 {
-    by_order::<Inner, LeastCostWithTies>(t, order, table, ends)
+    by_order::<Inner, LeastCostWithTies>(t, order, table, spans)
 }
 
 fn show_order(rt: &HostRuntime, order: &[usize], made: Option<Tied>) -> io::Result<()> {

@@ -5,12 +5,6 @@ use Rattle.passes.proofs.columns.column.Goals as goal
 pub loop-y-init : goal.loop-y-init
 loop-y-init g c = (λ p h. refl, λ y h. absurd (omega arith))
 
-pub overflow_mul-y : goal.overflow_mul-y
-overflow_mul-y g c = let u = (c.requires.entries 0 c.loop-y.y (omega arith) (omega arith)).0 in omega arith
-
-pub overflow_add-meta : goal.overflow_add-meta
-overflow_add-meta g c = let u = (c.requires.entries 0 c.loop-y.y (omega arith) (omega arith)).0 in omega arith
-
 pub dot-requires : goal.dot-requires
 dot-requires g c = record { column = omega arith; entries = λ x h. let u = (c.requires.entries x c.loop-y.y h (omega arith)).0 in omega arith }
 
@@ -20,15 +14,15 @@ loop-y-preserved g c =
     let y = c.loop-y.y in
     let at = c.args.to + y in
     let from = c.args.from in
-    let meta = c.args.meta + y * c.args.col in (
+    let meta = c.args.metastage.place + y * c.args.metastage.col in (
       λ p h. let ne : p ≢ at = omega arith in rw get_or-set_other (c.loop-y.invariant.0 p h),
       below_more _ _
           (λ z h. let ne : (c.args.to + z) ≢ at = omega arith in rw get_or-set_other (c.loop-y.invariant.1 z h))
           (let lt : at < length c.loop-y.table = omega arith in rw get_or-set_same
           (c.dot.ensures
-          ∙ dotted_same o c.args.states c.loop-y.table c.args.table.now from meta c.args.row
+          ∙ dotted_same o c.args.states c.loop-y.table c.args.table.now from meta c.args.metastage.row
           (λ x h. c.loop-y.invariant.0 (from + x) (⊎_elim (λ l. inl (omega arith)) (λ l. inr (omega arith)) c.requires.room.2))
-          (λ x h. c.loop-y.invariant.0 (meta + x * c.args.row) (c.requires.entries x y h (omega arith)).1))),
+          (λ x h. c.loop-y.invariant.0 (meta + x * c.args.metastage.row) (c.requires.entries x y h (omega arith)).1))),
     )
 
 pub returns : goal.returns

@@ -4,44 +4,44 @@ use Rattle.paths.proofs.Levels.{size_zero, size_suc, start_zero, start_suc, leve
 use Rattle.passes.proofs.Rows.{rows, square_low}
 use Rattle.passes.proofs.metastages.place_of.Goals as goal
 
-pub loop-l-init : goal.loop-l-init
-loop-l-init c = (sym (start_zero c.args.stages), sym (size_zero c.args.stages))
+pub loop-init : goal.loop-init
+loop-init c = (sym (start_zero c.args.stages), sym (size_zero c.args.stages))
 
 pub overflow_add-begin : goal.overflow_add-begin
-overflow_add-begin c = let t = levels_take c.args.stages c.loop-l.l in omega arith
+overflow_add-begin c = let t = levels_take c.args.stages c.loop.counter in omega arith
 
 pub overflow_add-many : goal.overflow_add-many
-overflow_add-many c = let t = levels_take c.args.stages c.loop-l.l in omega arith
+overflow_add-many c = let t = levels_take c.args.stages c.loop.counter in omega arith
 
-pub loop-l-preserved : goal.loop-l-preserved
-loop-l-preserved c =
+pub loop-preserved : goal.loop-preserved
+loop-preserved c =
     let n = c.args.stages in
-    let l = c.loop-l.l in
-    let a = c.loop-l.invariant.0 in
-    let b = c.loop-l.invariant.1 in
+    let l = c.loop.counter in
+    let a = c.loop.invariant.0 in
+    let b = c.loop.invariant.1 in
     let s = start_suc n l in
     let up : suc l ≡ l + 1 = sym (add-one l) in (
-      (let x : c.loop-l.begin + c.loop-l.many ≡ level_start n (suc l) = omega arith in x) ∙ ap (level_start n) up,
+      (let x : c.loop.begin + c.loop.many ≡ level_start n (suc l) = omega arith in x) ∙ ap (level_start n) up,
       ap (λ x. (x + 1) / 2) b ∙ sym (size_suc n l) ∙ ap (level_size n) up,
     )
 
 pub overflow_add-result : goal.overflow_add-result
-overflow_add-result c = let t = levels_take c.args.stages c.loop-l.l in omega arith
+overflow_add-result c = let t = levels_take c.args.stages c.loop.counter in omega arith
 
 pub overflow_mul-result-2 : goal.overflow_mul-result-2
 overflow_mul-result-2 c =
-    let t = levels_take c.args.stages c.loop-l.l in
+    let t = levels_take c.args.stages c.loop.counter in
     let q = square_low c.args.states (omega arith) in
-    let r = rows (c.loop-l.begin + c.args.j) 65536 (c.args.states * c.args.states) (omega arith) in
+    let r = rows (c.loop.begin + c.args.j) 65536 (c.args.states * c.args.states) (omega arith) in
     omega arith
 
 pub overflow_add-result-2 : goal.overflow_add-result-2
 overflow_add-result-2 c =
-    let e : c.loop-l.l ≡ c.args.level = omega arith in
-    let f = ap (λ a. (a + c.args.j) * (c.args.states * c.args.states)) (c.loop-l.invariant.0 ∙ ap (level_start c.args.stages) e) in
+    let e : c.loop.counter ≡ c.args.level = omega arith in
+    let f = ap (λ a. (a + c.args.j) * (c.args.states * c.args.states)) (c.loop.invariant.0 ∙ ap (level_start c.args.stages) e) in
     omega arith
 
 pub returns : goal.returns
 returns c =
-    let e : c.loop-l.l ≡ c.args.level = omega arith in
-    ap (λ a. c.args.base + (a + c.args.j) * (c.args.states * c.args.states)) (c.loop-l.invariant.0 ∙ ap (level_start c.args.stages) e)
+    let e : c.loop.counter ≡ c.args.level = omega arith in
+    ap (λ a. c.args.base + (a + c.args.j) * (c.args.states * c.args.states)) (c.loop.invariant.0 ∙ ap (level_start c.args.stages) e)

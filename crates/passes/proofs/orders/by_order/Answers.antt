@@ -1,9 +1,11 @@
-use Rattle.std.proofs.Common.{◌≡◌, ℕ, ◌+◌, ◌-◌, ◌*◌, ◌<◌, true, false, not, ◌&&◌, eqb, ltb, ◌≢◌, length, get_or, drop, Some, sym, refl, ap, ◌∙◌, subst, zero-mul, arith}
+use Rattle.std.proofs.Common.{take, ◌≡◌, ℕ, ◌+◌, ◌-◌, ◌*◌, ◌<◌, true, false, not, ◌&&◌, eqb, ltb, ◌≢◌, length, get_or, drop, Some, sym, refl, ap, ◌∙◌, subst, zero-mul, arith}
+use Rattle.std.proofs.lemmas.List.{get_or-take, length-take-le}
 use Rattle.std.proofs.lemmas.Bool.{ne_eqb, lt-ltb, le-ltb, and_left, cond-true, cond-false}
 use Rattle.paths.specs.Trellises.{Lawful}
 use Rattle.paths.specs.Paths.{across, path_join}
 use Rattle.passes.specs.Tables.{stage_at, Stages}
-use Rattle.passes.specs.Orders.{within, none_twice, complete_order, ends_at, is_open, made_one}
+use Rattle.passes.specs.Orders.{span_at, within, none_twice, complete_order, ends_at, is_open, made_one}
+use Rattle.passes.proofs.Rooms.{entry_room}
 use Rattle.passes.proofs.Blocks.{Blocks, single, first_low, last_low, at_boundary, one_sound}
 use Rattle.passes.proofs.Counts.{opens, opens_all, opens_less, one_left}
 use Rattle.passes.proofs.Follows.{follows, open_parts, open_after, complete_is, follows_on, follows_stops, follows_ends}
@@ -16,15 +18,16 @@ loop-j-init g c =
     let o = g.W.Weights.ops in
     let m = g.T.Trellis.meaning c.args.t.now in
     let n = c.stages-stages.result in
+    let single_each : (k : ℕ) → k < n → span_at c.single_blocks.new.spans k ≡ record { end = k + 1; begin = k } = λ k h. c.single_blocks.ensures k (omega (arith, length-take-le n c.args.spans.now)) in
     let v = c.state_count-states.result in
-    let e = c.single_blocks.new.ends in
+    let e = c.single_blocks.new.spans in
     let tb = c.lay_stages.new.table in
     let is_n = c.stages-stages.ensures in
     let some = (g.T.Trellis.lawful c.args.t.now).some_stages in
     let stand : Stages o v m 0 tb = subst (λ w. Stages o w m 0 tb) (sym c.state_count-states.ensures) c.lay_stages.ensures.made in
-    let all = opens_all e (n - 1) (λ i p h. let x = c.single_blocks.ensures.first i (omega arith) in omega arith) in (
-      single n e (omega arith) (omega arith) c.single_blocks.ensures.first c.single_blocks.ensures.last,
-      stages_stand g.met.W.Semiring.laws v m n (omega arith) e tb stand c.single_blocks.ensures.first,
+    let all = opens_all e (n - 1) (λ i p h. let x = ap (λ s. s.end) (single_each i (omega arith)) in omega arith) in (
+      single n e (omega arith) (omega (arith, length-take-le n c.args.spans.now)) single_each,
+      stages_stand g.met.W.Semiring.laws v m n (omega arith) e tb stand single_each,
       omega arith,
       refl,
     )
@@ -40,10 +43,11 @@ returns-then-order-stages g c =
 pub replace-requires : goal.replace-requires
 replace-requires g c =
     let n = c.stages-stages.result in
+    let size : length c.loop-j.spans ≡ n = omega (arith, length-take-le n c.args.spans.now) in
     let v = c.state_count-states.result in
-    let e = c.loop-j.ends in
+    let e = c.loop-j.spans in
     let j = get_or c.args.order.now c.loop-j.j-index 0 in
-    let p = open_parts n e j (sym c.if-not-is_open.ensures) in
+    let p = open_parts n e j (rw size at (sym c.if-not-is_open.ensures)) in
     let r = places n e c.loop-j.invariant.0 j p.0 p.1 p.2 (v * v) in
     let room : n * (v * v) + v * v ≡ (g.T.Trellis.meaning c.args.t.now).stages * (g.T.Trellis.states * g.T.Trellis.states) + g.T.Trellis.states * g.T.Trellis.states =
     ap (λ n. n * (v * v) + v * v) c.stages-stages.ensures ∙ ap (λ v. (g.T.Trellis.meaning c.args.t.now).stages * (v * v) + v * v) c.state_count-states.ensures in
@@ -52,10 +56,11 @@ replace-requires g c =
 pub overflow_mul-first : goal.overflow_mul-first
 overflow_mul-first g c =
     let n = c.stages-stages.result in
+    let size : length c.loop-j.spans ≡ n = omega (arith, length-take-le n c.args.spans.now) in
     let v = c.state_count-states.result in
     let j = get_or c.args.order.now c.loop-j.j-index 0 in
-    let p = open_parts n c.loop-j.ends j (sym c.if-not-is_open.ensures) in
-    let r = places n c.loop-j.ends c.loop-j.invariant.0 j p.0 p.1 p.2 (v * v) in
+    let p = open_parts n c.loop-j.spans j (rw size at (sym c.if-not-is_open.ensures)) in
+    let r = places n c.loop-j.spans c.loop-j.invariant.0 j p.0 p.1 p.2 (v * v) in
     let room : n * (v * v) + v * v ≡ (g.T.Trellis.meaning c.args.t.now).stages * (g.T.Trellis.states * g.T.Trellis.states) + g.T.Trellis.states * g.T.Trellis.states =
     ap (λ n. n * (v * v) + v * v) c.stages-stages.ensures ∙ ap (λ v. (g.T.Trellis.meaning c.args.t.now).stages * (v * v) + v * v) c.state_count-states.ensures in
     omega arith
@@ -63,12 +68,15 @@ overflow_mul-first g c =
 pub close-requires : goal.close-requires
 close-requires g c =
     let n = c.stages-stages.result in
-    let e = c.loop-j.ends in
+    let size : length c.loop-j.spans ≡ n = omega (arith, length-take-le n c.args.spans.now) in
+    let e = c.loop-j.spans in
     let j = get_or c.args.order.now c.loop-j.j-index 0 in
-    let p = open_parts n e j (sym c.if-not-is_open.ensures) in
+    let p = open_parts n e j (rw size at (sym c.if-not-is_open.ensures)) in
     let sound = c.loop-j.invariant.0 in
     let f = first_low n e sound j p.0 p.1 p.2 in
-    record { boundary = (p.0, p.1); sound = (omega arith, p.2, last_low n e sound j p.0 p.1 p.2); room = sound.long }
+    let l = last_low n e sound j p.0 p.1 p.2 in
+    let low = p.1 in
+    record { boundary = (p.0, omega arith); sound = (omega arith, p.2, omega arith) }
 
 pub loop-j-preserved : goal.loop-j-preserved
 loop-j-preserved g c =
@@ -76,17 +84,18 @@ loop-j-preserved g c =
     let laws = g.met.W.Semiring.laws in
     let m = g.T.Trellis.meaning c.args.t.now in
     let n = c.stages-stages.result in
+    let size : length c.loop-j.spans ≡ n = omega (arith, length-take-le n c.args.spans.now) in
     let v = c.state_count-states.result in
-    let e = c.loop-j.ends in
+    let e = c.loop-j.spans in
     let order = c.args.order.now in
     let i = c.loop-j.j-index in
     let j = get_or order i 0 in
-    let d = made_one n e j in
-    let here : is_open n e j ≡ true = sym c.if-not-is_open.ensures in
+    let d = made_one e j in
+    let here : is_open n e j ≡ true = rw size at (sym c.if-not-is_open.ensures) in
     let p = open_parts n e j here in
     let sound = c.loop-j.invariant.0 in
     let is_n = c.stages-stages.ensures in
-    let is : d ≡ c.close.new.ends = sym c.close.ensures in
+    let is : d ≡ c.close.new.spans = sym c.close.ensures in
     let ceiling = g.T.Trellis.ceiling in
     let bits = g.T.Trellis.bits c.args.t.now in
     let law : Lawful v ceiling bits m = subst (λ w. Lawful w ceiling bits m) (sym c.state_count-states.ensures) (g.T.Trellis.lawful c.args.t.now) in
@@ -105,17 +114,19 @@ loop-j-preserved g c =
 pub returns-then-not-is_open : goal.returns-then-not-is_open
 returns-then-not-is_open g c =
     let n = c.stages-stages.result in
+    let single_each : (k : ℕ) → k < n → span_at c.single_blocks.new.spans k ≡ record { end = k + 1; begin = k } = λ k h. c.single_blocks.ensures k (omega (arith, length-take-le n c.args.spans.now)) in
+    let size : length c.loop-j.spans ≡ n = omega (arith, length-take-le n c.args.spans.now) in
     let order = c.args.order.now in
     let i = c.loop-j.j-index in
-    let here : is_open n c.loop-j.ends (get_or order i 0) ≡ false = sym c.if-not-is_open.ensures in
+    let here : is_open n c.loop-j.spans (get_or order i 0) ≡ false = rw size at (sym c.if-not-is_open.ensures) in
     let some = (g.T.Trellis.lawful c.args.t.now).some_stages in
     let is_n = c.stages-stages.ensures in
-    let begun = c.single_blocks.new.ends in
-    let sound = single n begun (omega arith) (omega arith) c.single_blocks.ensures.first c.single_blocks.ensures.last in
-    let all : (k : ℕ) → k < n → 0 < ends_at begun k = λ k h. let x = c.single_blocks.ensures.first k h in omega arith in
+    let begun = c.single_blocks.new.spans in
+    let sound = single n begun (omega arith) (omega (arith, length-take-le n c.args.spans.now)) single_each in
+    let all : (k : ℕ) → k < n → 0 < ends_at begun k = λ k h. let x = ap (λ s. s.end) (single_each k h) in omega arith in
     sym (cond-false _ _ _
     (ap (λ n. complete_order n order) (sym c.stages-stages.ensures) ∙ complete_is n begun order sound all (omega arith)
-    ∙ c.loop-j.invariant.3 ∙ follows_stops n c.loop-j.ends order i (omega arith) here))
+    ∙ c.loop-j.invariant.3 ∙ follows_stops n c.loop-j.spans order i (omega arith) here))
 
 pub returns : goal.returns
 returns g c =
@@ -123,15 +134,16 @@ returns g c =
     let m = g.T.Trellis.meaning c.args.t.now in
     let w = g.T.Trellis.states in
     let n = c.stages-stages.result in
+    let single_each : (k : ℕ) → k < n → span_at c.single_blocks.new.spans k ≡ record { end = k + 1; begin = k } = λ k h. c.single_blocks.ensures k (omega (arith, length-take-le n c.args.spans.now)) in
     let v = c.state_count-states.result in
     let order = c.args.order.now in
-    let e = c.loop-j.ends in
+    let e = c.loop-j.spans in
     let tb = c.loop-j.table in
     let some = (g.T.Trellis.lawful c.args.t.now).some_stages in
     let is_n = c.stages-stages.ensures in
-    let begun = c.single_blocks.new.ends in
-    let sound = single n begun (omega arith) (omega arith) c.single_blocks.ensures.first c.single_blocks.ensures.last in
-    let all : (k : ℕ) → k < n → 0 < ends_at begun k = λ k h. let x = c.single_blocks.ensures.first k h in omega arith in
+    let begun = c.single_blocks.new.spans in
+    let sound = single n begun (omega arith) (omega (arith, length-take-le n c.args.spans.now)) single_each in
+    let all : (k : ℕ) → k < n → 0 < ends_at begun k = λ k h. let x = ap (λ s. s.end) (single_each k h) in omega arith in
     let left = c.loop-j.invariant.2 in
     let whole : ends_at e 0 ≡ m.stages = one_left n e c.loop-j.invariant.0 (omega arith) ∙ c.stages-stages.ensures in
     let stands : Standing o w m n e tb = subst (λ v. Standing o v m n e tb) c.state_count-states.ensures c.loop-j.invariant.1 in
@@ -140,9 +152,11 @@ returns g c =
     ∙ c.loop-j.invariant.3 ∙ follows_ends n e order c.loop-j.j-index (omega arith) in
     ap Some
     (c.first_to_last.ensures
-    ∙ last_metastage g.met.W.Semiring.laws m (g.T.Trellis.lawful c.args.t.now) tb 0
+    ∙ last_metastage g.met.W.Semiring.laws m (g.T.Trellis.lawful c.args.t.now) (take (v * v) tb)
     (λ x y small little.
     let zero_row = zero-mul (w * w) in
-    let at : 0 + (x * w + y) ≡ stage_at 0 w 0 x y = omega arith in
-    ap (λ p. get_or tb p o.none) at ∙ stands 0 (omega arith) (omega arith) x y small little ∙ ap (λ b. path_join o (across m 0 b x y)) whole))
+    let square : v * v ≡ w * w = ap (λ v. v * v) c.state_count-states.ensures in
+    let room = entry_room x y w small little in
+    let at : x * w + y ≡ stage_at 0 w 0 x y = omega arith in
+    get_or-take (v * v) tb (x * w + y) o.none (omega arith) ∙ ap (λ p. get_or tb p o.none) at ∙ stands 0 (omega arith) (omega arith) x y small little ∙ ap (λ b. path_join o (across m 0 b x y)) whole))
     ∙ sym (cond-true (complete_order m.stages order) _ _ complete)

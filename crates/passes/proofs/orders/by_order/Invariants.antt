@@ -8,7 +8,7 @@ use Rattle.passes.proofs.orders.by_order.Given as goal
 abbrev pub invariant-loop-j : goal.invariant-loop-j
 invariant-loop-j g l =
     let m = g.T.Trellis.meaning l.t in
-    Blocks l.stages l.ends
-    × Standing g.W.Weights.ops l.states m l.stages l.ends l.table
-    × (opens l.ends (l.stages - 1) + l.j-index ≡ l.stages - 1)
-    × (follows l.stages l.initial.ends l.order ≡ follows l.stages l.ends (drop l.j-index l.order))
+    Blocks l.stages l.spans
+    × Standing g.W.Weights.ops l.states m l.stages l.spans l.table
+    × (opens l.spans (l.stages - 1) + l.j-index ≡ l.stages - 1)
+    × (follows l.stages l.initial.spans l.order ≡ follows l.stages l.spans (drop l.j-index l.order))

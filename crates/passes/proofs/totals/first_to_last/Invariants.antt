@@ -1,4 +1,5 @@
 use Rattle.std.proofs.Common.{◌≡◌, ◌+◌, ◌*◌, cond}
+use Rattle.std.specs.Prelude.{slice_range}
 use Rattle.paths.specs.Columns.{join_below}
 use Rattle.passes.specs.Totals.{in_last}
 use Rattle.passes.proofs.totals.first_to_last.Given as goal
@@ -8,4 +9,4 @@ invariant-loop-s g l =
     let o = g.W.Weights.ops in
     let w = g.T.Trellis.states in
     let m = g.T.Trellis.meaning l.t in
-    l.sum ≡ join_below o l.s (λ s. cond (m.first s) (in_last o w m l.table (l.at + s * w)) o.none)
+    l.sum ≡ join_below o l.s (λ s. cond (m.first s) (in_last o w m (slice_range l.metastage (s * w) ((s + 1) * w))) o.none)
