@@ -32,8 +32,5 @@ pub(crate) fn clear<W: Weights>(bits: usize, words: &mut [W::Value; 256])
     requires { bits ≤ 8 }
     ensures { (w : ℕ) → w < 2 ^ bits → slice_index_or words.new w W.ops.none ≡ W.ops.none }
 {
-    // `fill` needs to know that a value's clone is the value, which `Copy` alone does not say.
-    for word in &mut words[..word_count(bits)] {
-        *word = W::none();
-    }
+    words[..word_count(bits)].fill_with(|| W::none());
 }

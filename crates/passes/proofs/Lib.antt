@@ -1,6 +1,5 @@
 pub mod Rows
 pub mod Turns
-pub mod Filled
 pub mod Dots
 pub mod Rooms
 pub mod Keeps

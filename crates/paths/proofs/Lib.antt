@@ -18,3 +18,4 @@ pub mod Occurrences
 pub mod Runs
 pub mod Named
 pub mod Exactly
+pub mod Filled

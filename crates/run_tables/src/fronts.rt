@@ -10,7 +10,8 @@ pub fn clear<T: Copy>(table: &mut [T], n: usize, z: T)
     requires { n ≤ length table.old }
     ensures after { table.new ≡ cleared n z table.old }
 {
-    // `fill` asks for a clone that cannot fail, and `Copy` does not say that of `T`.
+    // `fill` asks for a clone that cannot fail, and `Copy` does not say that of `T`; of `fill_with(|| z)` the proof did not close,
+    // that the closure holds the same `z` at each call.
     for entry in &mut table[..n] {
         *entry = z;
     }

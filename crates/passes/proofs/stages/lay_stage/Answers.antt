@@ -4,7 +4,7 @@ use Rattle.paths.specs.Columns.{gathered}
 use Rattle.paths.proofs.Inside.{Low}
 use Rattle.passes.proofs.Rows.{row_under}
 use Rattle.passes.proofs.Turns.{stage_turned}
-use Rattle.passes.proofs.Filled.{filled}
+use Rattle.paths.proofs.Filled.{filled}
 use Rattle.passes.proofs.stages.lay_stage.Goals as goal
 
 pub loop-i-init : goal.loop-i-init

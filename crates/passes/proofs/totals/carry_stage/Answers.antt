@@ -4,7 +4,7 @@ use Rattle.paths.specs.declared.edges.Edge.{Edge}
 use Rattle.paths.specs.Columns.{gathered}
 use Rattle.paths.proofs.Inside.{Low}
 use Rattle.passes.proofs.Turns.{column_turned}
-use Rattle.passes.proofs.Filled.{filled}
+use Rattle.paths.proofs.Filled.{filled}
 use Rattle.passes.proofs.totals.carry_stage.Goals as goal
 
 pub loop-i-init : goal.loop-i-init
