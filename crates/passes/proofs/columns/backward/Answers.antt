@@ -82,14 +82,3 @@ loop-k-preserved g c =
           ∙ ap (λ i. backward o w m i s) (sym is))
           (cases_lt k j),
     )
-
-pub returns : goal.returns
-returns g c =
-    let w = g.T.Trellis.states in
-    let m = g.T.Trellis.meaning c.args.t.now in
-    let v = c.state_count-states.result in
-    let front = columns_are v w c.stages-stages.result m.stages c.state_count-states.ensures c.stages-stages.ensures in
-    record {
-      kept = λ p h. c.loop-k.invariant.0 p h ∙ ⊎_elim (λ l. search (rules, places)) (λ l. search (rules, places)) h;
-      made = λ k s h b. c.loop-k.invariant.1 k s (omega arith) h b;
-    }

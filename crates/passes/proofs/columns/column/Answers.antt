@@ -1,12 +1,6 @@
-use Rattle.std.proofs.Common.{◌+◌, ◌*◌, ◌<◌, ◌≢◌, length, refl, ◌∙◌, inl, inr, ⊎_elim, arith, get_or-set_other, get_or-set_same, below_more}
+use Rattle.std.proofs.Common.{◌+◌, ◌*◌, ◌<◌, ◌≢◌, length, ◌∙◌, inl, inr, ⊎_elim, arith, get_or-set_other, get_or-set_same, below_more}
 use Rattle.passes.proofs.Dots.{dotted_same}
 use Rattle.passes.proofs.columns.column.Goals as goal
-
-pub loop-y-init : goal.loop-y-init
-loop-y-init g c = (λ p h. refl, λ y h. absurd (omega arith))
-
-pub dot-requires : goal.dot-requires
-dot-requires g c = record { column = omega arith; entries = λ x h. let u = (c.requires.entries x c.loop-y.y h (omega arith)).0 in omega arith }
 
 pub loop-y-preserved : goal.loop-y-preserved
 loop-y-preserved g c =
@@ -24,6 +18,3 @@ loop-y-preserved g c =
           (λ x h. c.loop-y.invariant.0 (from + x) (⊎_elim (λ l. inl (omega arith)) (λ l. inr (omega arith)) c.requires.room.2))
           (λ x h. c.loop-y.invariant.0 (meta + x * c.args.metastage.row) (c.requires.entries x y h (omega arith)).1))),
     )
-
-pub returns : goal.returns
-returns g c = record { kept = c.loop-y.invariant.0; made = λ y h. c.loop-y.invariant.1 y (omega arith) }

@@ -56,6 +56,3 @@ loop-k-preserved g c =
           ∙ ap (λ i. forward o w m i s) (sym is))
           (cases_lt j (k + 1)),
     )
-
-pub returns : goal.returns
-returns g c = record { kept = λ p h. c.loop-k.invariant.0 p h ∙ search (rules, places); made = λ k s h b. c.loop-k.invariant.1 k s (omega arith) b }

@@ -61,9 +61,6 @@ overflow_add-many g c =
     let t = levels_take n c.loop-many.level in
     omega arith
 
-pub overflow_add-level : goal.overflow_add-level
-overflow_add-level g c = omega arith
-
 pub pairs-requires : goal.pairs-requires
 pairs-requires g c =
     let w = g.T.Trellis.states in

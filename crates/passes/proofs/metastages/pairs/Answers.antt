@@ -1,34 +1,10 @@
-use Rattle.std.proofs.Common.{◌≡◌, ◌+◌, ◌-◌, ◌*◌, ◌/◌, get_or, sym, refl, ap, ◌∙◌, inl, inr, ⊎_elim, arith}
+use Rattle.std.proofs.Common.{◌≡◌, ◌+◌, ◌-◌, ◌*◌, ◌/◌, get_or, sym, ap, ◌∙◌, inl, inr, ⊎_elim, arith}
 use Rattle.std.proofs.lemmas.Bool.{cases_lt}
 use Rattle.passes.specs.Tables.{dotted}
 use Rattle.passes.proofs.Dots.{dotted_same}
-use Rattle.passes.proofs.Rows.{row_under, row_more, square_low, two_under}
+use Rattle.passes.proofs.Rows.{row_under, row_more, two_under}
 use Rattle.passes.proofs.Rooms.{entry_room}
 use Rattle.passes.proofs.metastages.pairs.Goals as goal
-
-pub overflow_mul-square : goal.overflow_mul-square
-overflow_mul-square g c = let a = square_low c.args.states c.requires.few in omega arith
-
-pub loop-j-init : goal.loop-j-init
-loop-j-init g c = (λ p h. refl, λ j s t h. absurd (omega arith))
-
-pub overflow_mul-left-in-loop-j : goal.overflow_mul-left-in-loop-j
-overflow_mul-left-in-loop-j g c = let u = two_under c.loop-j.j c.args.many (c.args.states * c.args.states) (omega arith) in omega arith
-
-pub overflow_add-left : goal.overflow_add-left
-overflow_add-left g c = let u = two_under c.loop-j.j c.args.many (c.args.states * c.args.states) (omega arith) in omega arith
-
-pub overflow_add-left-in-loop-j : goal.overflow_add-left-in-loop-j
-overflow_add-left-in-loop-j g c = let u = two_under c.loop-j.j c.args.many (c.args.states * c.args.states) (omega arith) in omega arith
-
-pub overflow_add-to : goal.overflow_add-to
-overflow_add-to g c = let u = row_under c.loop-j.j ((c.args.many + 1) / 2) (c.args.states * c.args.states) (omega arith) in omega arith
-
-pub product-requires : goal.product-requires
-product-requires g c =
-    let u = two_under c.loop-j.j c.args.many (c.args.states * c.args.states) (omega arith) in
-    let v = row_under c.loop-j.j ((c.args.many + 1) / 2) (c.args.states * c.args.states) (omega arith) in
-    record { room = (omega arith, omega arith, omega arith); apart = (inl (omega arith), inl (omega arith)) }
 
 pub loop-j-preserved : goal.loop-j-preserved
 loop-j-preserved g c =
@@ -58,17 +34,6 @@ loop-j-preserved g c =
           ∙ ap (λ i. dotted o w old (from + 2 * i * q + s * w) (from + 2 * i * q + q + t) w) is)
           (cases_lt j k),
     )
-
-pub copy-requires : goal.copy-requires
-copy-requires g c =
-    let w = c.args.states in
-    let q = w * w in
-    let many = c.args.many in
-    let e : (many + 1) / 2 ≡ many / 2 + 1 = omega arith in
-    let f = ap (λ a. a * q) e in
-    let r = row_more (many / 2) q in
-    let u = row_under (many - 1) many q (omega arith) in
-    record { room = (omega arith, omega arith); apart = inl (omega arith) }
 
 pub returns-then-many-eq1 : goal.returns-then-many-eq1
 returns-then-many-eq1 g c =

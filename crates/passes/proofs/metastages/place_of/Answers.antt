@@ -1,7 +1,6 @@
-use Rattle.std.proofs.Common.{◌≡◌, suc, ◌+◌, ◌*◌, ◌/◌, sym, ap, ◌∙◌, add-one, arith}
+use Rattle.std.proofs.Common.{◌≡◌, suc, ◌+◌, ◌/◌, sym, ap, ◌∙◌, add-one, arith}
 use Rattle.paths.specs.Metastages.{level_size, level_start}
 use Rattle.paths.proofs.Levels.{size_zero, size_suc, start_zero, start_suc, levels_take}
-use Rattle.passes.proofs.Rows.{rows, square_low}
 use Rattle.passes.proofs.metastages.place_of.Goals as goal
 
 pub loop-init : goal.loop-init
@@ -27,21 +26,3 @@ loop-preserved c =
 
 pub overflow_add-result : goal.overflow_add-result
 overflow_add-result c = let t = levels_take c.args.stages c.loop.counter in omega arith
-
-pub overflow_mul-result-2 : goal.overflow_mul-result-2
-overflow_mul-result-2 c =
-    let t = levels_take c.args.stages c.loop.counter in
-    let q = square_low c.args.states (omega arith) in
-    let r = rows (c.loop.begin + c.args.j) 65536 (c.args.states * c.args.states) (omega arith) in
-    omega arith
-
-pub overflow_add-result-2 : goal.overflow_add-result-2
-overflow_add-result-2 c =
-    let e : c.loop.counter ≡ c.args.level = omega arith in
-    let f = ap (λ a. (a + c.args.j) * (c.args.states * c.args.states)) (c.loop.invariant.0 ∙ ap (level_start c.args.stages) e) in
-    omega arith
-
-pub returns : goal.returns
-returns c =
-    let e : c.loop.counter ≡ c.args.level = omega arith in
-    ap (λ a. c.args.base + (a + c.args.j) * (c.args.states * c.args.states)) (c.loop.invariant.0 ∙ ap (level_start c.args.stages) e)

@@ -1,34 +1,10 @@
-use Rattle.std.proofs.Common.{◌≡◌, ◌+◌, ◌*◌, get_or, sym, refl, ap, ◌∙◌, inl, inr, ⊎_elim, arith}
+use Rattle.std.proofs.Common.{◌≡◌, ◌+◌, ◌*◌, get_or, sym, ap, ◌∙◌, inl, inr, ⊎_elim, arith}
 use Rattle.std.proofs.lemmas.Bool.{cases_lt}
 use Rattle.passes.specs.Tables.{dotted}
 use Rattle.passes.proofs.Dots.{dotted_same}
 use Rattle.passes.proofs.Rows.{row_under}
 use Rattle.passes.proofs.Rooms.{entry_room}
 use Rattle.passes.proofs.metastages.product.Goals as goal
-
-pub loop-s-init : goal.loop-s-init
-loop-s-init g c = (λ p h. refl, λ s t h k. absurd (omega arith))
-
-pub overflow_mul-s : goal.overflow_mul-s
-overflow_mul-s g c = let u = row_under c.loop-s.s c.args.states c.args.states (omega arith) in omega arith
-
-pub overflow_add-left : goal.overflow_add-left
-overflow_add-left g c = let u = row_under c.loop-s.s c.args.states c.args.states (omega arith) in omega arith
-
-pub overflow_mul-s-in-loop-s : goal.overflow_mul-s-in-loop-s
-overflow_mul-s-in-loop-s g c = let u = row_under c.loop-s.s c.args.states c.args.states (omega arith) in omega arith
-
-pub overflow_add-to : goal.overflow_add-to
-overflow_add-to g c = let u = row_under c.loop-s.s c.args.states c.args.states (omega arith) in omega arith
-
-pub column-requires : goal.column-requires
-column-requires g c =
-    let w = c.args.states in
-    let u = row_under c.loop-s.s w w (omega arith) in
-    record {
-      room = (omega arith, omega arith, ⊎_elim (λ l. inl (omega arith)) (λ l. inr (omega arith)) c.requires.apart.0);
-      entries = λ x y h b. let e = entry_room x y w h b in (omega arith, ⊎_elim (λ l. inl (omega arith)) (λ l. inr (omega arith)) c.requires.apart.1);
-    }
 
 pub loop-s-preserved : goal.loop-s-preserved
 loop-s-preserved g c =
@@ -59,6 +35,3 @@ loop-s-preserved g c =
           ∙ ap (λ i. dotted o w old (left + i) (right + t) w) (sym f))
           (cases_lt s k),
     )
-
-pub returns : goal.returns
-returns g c = record { kept = c.loop-s.invariant.0; made = λ s t h b. c.loop-s.invariant.1 s t (omega arith) b }

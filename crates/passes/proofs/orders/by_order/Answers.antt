@@ -32,14 +32,6 @@ loop-j-init g c =
       refl,
     )
 
-pub returns-then-order-stages : goal.returns-then-order-stages
-returns-then-order-stages g c =
-    let n = (g.T.Trellis.meaning c.args.t.now).stages in
-    let order = c.args.order.now in
-    let is_n = c.stages-stages.ensures in
-    let other : length order ≢ (n - 1) = λ q. c.if-order-stages.true (omega arith) in
-    sym (cond-false (complete_order n order) _ _ (and_left (eqb (length order) (n - 1)) (within n order && none_twice order) (ne_eqb (length order) (n - 1) other)))
-
 pub replace-requires : goal.replace-requires
 replace-requires g c =
     let n = c.stages-stages.result in
