@@ -18,6 +18,7 @@ pub(crate) fn dot<W: Weights>(
     ensures { result ≡ dotted W.ops states table.now from meta row }
 {
     let mut sum = W::none();
+    // By `table[meta..].iter().step_by(row)` a row of 0 would have to be ruled out, which no caller has to.
     for (x, left) in table[from..from + states].iter().enumerate() {
         sum = W::join(sum, W::chain(*left, table[meta + x * row]));
     }
@@ -33,6 +34,7 @@ pub(crate) struct Metastage {
 }
 
 // A whole column, from its neighbour and the metastage between them.
+// The number of states is passed: asked of a trellis it would be a further type parameter here and in each caller, for no other answer of it.
 pub(crate) fn column<W: Weights>(
     table: &mut [W::Value],
     from: usize,
@@ -62,6 +64,8 @@ pub(crate) fn border<W: Weights, F: Fn(usize) -> bool>(column: &mut [W::Value], 
     }
 }
 
+// The trellis, the table and the base of its metastages stay three parameters: callers read and lend the table between the passes,
+// which a struct that holds it, with the fact that the metastages stand, would keep from them.
 /// Lays the forward columns: entry s of column k joins what leads through the first `k` stages to s.
 pub fn forward<T: Trellis, W: Weights>(t: &T, table: &mut [W::Value], base: usize)
     requires room { (columns_size T.states (T.meaning t.now).stages ≤ base) × (base + (T.meaning t.now).stages * (T.states * T.states) ≤ length table.old) }

@@ -10,7 +10,8 @@ use super::stages::lay_stages;
 use super::totals::first_to_last;
 use paths::{Semiring, Trellis, Weights};
 
-/// What is remembered of a stage: where the block that begins with it ends, 0 where none begins, and where the block that ends with it begins.
+/// What is remembered of a stage: where the block that begins with it ends, 0 where none begins (no block ends there),
+/// and where the block that ends with it begins.
 #[derive(Clone, Copy, PartialEq, Eq, Debug)]
 pub struct Span {
     pub end: usize,

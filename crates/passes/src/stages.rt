@@ -40,6 +40,7 @@ pub fn lay_stages<T: Trellis, W: Weights>(t: &T, table: &mut [W::Value], base: u
     let states = T::state_count();
     let square = states * states;
     let mut costs = [0; 512];
+    // By `chunks_exact_mut(square).enumerate()` the proof did not close: that it gives a chunk for each stage and no more, and what the chunks hold in the end.
     for k in 0..t.stages() {
         let place = base + k * square;
         lay_stage::<T, W>(

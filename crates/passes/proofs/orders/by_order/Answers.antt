@@ -1,10 +1,10 @@
-use Rattle.std.proofs.Common.{take, ◌≡◌, ℕ, ◌+◌, ◌-◌, ◌*◌, ◌<◌, true, false, not, ◌&&◌, eqb, ltb, ◌≢◌, length, get_or, drop, Some, sym, refl, ap, ◌∙◌, subst, zero-mul, arith}
+use Rattle.std.proofs.Common.{take, ◌≡◌, ℕ, ◌+◌, ◌-◌, ◌*◌, ◌<◌, true, false, not, ◌&&◌, ltb, length, get_or, drop, Some, sym, refl, ap, ◌∙◌, subst, zero-mul, arith}
 use Rattle.std.proofs.lemmas.List.{get_or-take, length-take-le}
-use Rattle.std.proofs.lemmas.Bool.{ne_eqb, lt-ltb, le-ltb, and_left, cond-true, cond-false}
+use Rattle.std.proofs.lemmas.Bool.{ne_eqb, lt-ltb, le-ltb, cond-true, cond-false}
 use Rattle.paths.specs.Trellises.{Lawful}
 use Rattle.paths.specs.Paths.{across, path_join}
 use Rattle.passes.specs.Tables.{stage_at, Stages}
-use Rattle.passes.specs.Orders.{span_at, within, none_twice, complete_order, ends_at, is_open, made_one}
+use Rattle.passes.specs.Orders.{span_at, complete_order, ends_at, is_open, made_one}
 use Rattle.passes.proofs.Rooms.{entry_room}
 use Rattle.passes.proofs.Blocks.{Blocks, single, first_low, last_low, at_boundary, one_sound}
 use Rattle.passes.proofs.Counts.{opens, opens_all, opens_less, one_left}
