@@ -39,6 +39,7 @@ impl<'a> Block<'a> {
         let m = self.plan.bits();
         let mut acc = held;
         let mut value: u32 = 0;
+        // By number: a bit is asked of the block, and no slice holds the bits.
         for i in 0..m {
             acc = self.accumulate(k * m + i, acc);
             value = 2 * value + u32::from(acc);

@@ -82,6 +82,7 @@ pub fn levels<T: Trellis, W: Semiring>(t: &T, table: &mut [W::Value], base: usiz
     let mut level = 0;
     let mut many = t.stages();
     let mut from = base;
+    // No range says how many levels there are: each has half as many metastages as the one before.
     while many > 1 {
         let to = from + many * square;
         pairs::<W>(table, from, to, many, states);

@@ -83,6 +83,7 @@ fn carry_stage<T: Trellis, W: Weights>(
     ensures { (s : ℕ) → s < T.states → slice_index_or after.new s W.ops.none ≡ by_edges W.ops before.now ((T.meaning stage.now.trellis.now).edges stage.now.number) s }
 {
     after.fill_with(|| W::none());
+    // By number: the edges are asked of the trellis, and no slice holds them.
     for i in 0..stage.edge_count() {
         let e = stage.edge(i);
         let more = W::chain(before[e.from], W::value(e.cost));
@@ -98,6 +99,7 @@ pub fn total<T: Trellis, W: Semiring>(t: &T, columns: &mut [W::Value]) -> W::Val
     let states = T::state_count();
     let (mut before, mut after) = columns[..states + states].split_at_mut(states);
     border::<W, _>(before, |s| t.first(s));
+    // By number: the stages are asked of the trellis, and no slice holds them.
     for k in 0..t.stages() {
         carry_stage::<T, W>(&Stage::new(t, k), before, after);
         mem::swap(&mut before, &mut after);

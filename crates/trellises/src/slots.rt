@@ -29,6 +29,7 @@ pub(crate) fn slot_table(m: usize) -> [u8; 256]
     ensures { (w : ℕ) → w < 2 ^ m → slice_index result w ≡ slot_of 0 w m }
 {
     let mut slots = [0u8; 256];
+    // By number: each bit doubles the slots, and none stands in a slice.
     for j in 0..m {
         double(&mut slots, word_count(j));
     }
