@@ -9,7 +9,7 @@ use Rattle.paths.proofs.Carried.{joins_fine}
 use Rattle.paths.proofs.Levels.{size_suc, start_zero, start_suc, levels_take, levels_fit, level_ends}
 use Rattle.paths.proofs.Covered.{covered, stage_covered, pair_covered, odd_covered}
 use Rattle.passes.specs.Tables.{Stages, dotted}
-use Rattle.passes.specs.Levels.{Level}
+use Rattle.passes.specs.Levels.{Level, levels_room}
 use Rattle.passes.proofs.Rows.{row_under, row_more, rows}
 use Rattle.passes.proofs.Rooms.{entry_room}
 use Rattle.passes.proofs.Dots.{dotted_joins}
@@ -103,4 +103,14 @@ room_last n l q few one =
     let t = levels_take n l in
     let r = rows (level_start n l + 0 + 1) (2 * n + 14) q (omega arith) in
     let s = row_more (level_start n l + 0) q in
+    omega arith
+
+-- the next level lies within the table, as the code counts it
+pub pairs_room : (base w v n l many from size : ℕ) → v ≡ w → n ≤ 16384 → many ≡ level_size n l → 1 < many → from ≡ base + level_start n l * (w * w) → base + levels_room w n ≤ size
+    → from + many * (v * v) + (many + 1) / 2 * (v * v) ≤ size
+pairs_room base w v n l many from size states few is more at room =
+    let r = room_level n l (w * w) few (omega arith) in
+    let e = ap (λ v. many * (v * v)) states in
+    let f = ap (λ a. a * (w * w)) is in
+    let h : (many + 1) / 2 * (v * v) ≡ level_size n (suc l) * (w * w) = ap (λ v. (many + 1) / 2 * (v * v)) states ∙ ap (λ a. (a + 1) / 2 * (w * w)) is ∙ ap (λ a. a * (w * w)) (sym (size_suc n l)) in
     omega arith

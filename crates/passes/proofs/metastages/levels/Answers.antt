@@ -1,11 +1,11 @@
-use Rattle.std.proofs.Common.{◌≡◌, ℕ, suc, ◌+◌, ◌-◌, ◌*◌, ◌/◌, ◌%◌, ◌<◌, ◌≤◌, get_or, sym, refl, ap, ◌∙◌, subst, inl, inr, ⊎_elim, add-mul, zero-mul, add-one, arith, below_more}
+use Rattle.std.proofs.Common.{length, ◌≡◌, ℕ, suc, ◌+◌, ◌-◌, ◌*◌, ◌/◌, ◌%◌, ◌<◌, ◌≤◌, get_or, sym, refl, ap, ◌∙◌, subst, inl, inr, ⊎_elim, add-mul, zero-mul, add-one, arith, below_more}
 use Rattle.std.proofs.lemmas.Bool.{cases_lt}
 use Rattle.paths.specs.Metastages.{level_size, level_start}
 use Rattle.paths.proofs.Levels.{size_zero, size_suc, start_zero, start_suc, below_fourteen, levels_take}
 use Rattle.passes.specs.Tables.{dotted}
 use Rattle.passes.specs.Levels.{Level}
 use Rattle.passes.proofs.Rows.{rows}
-use Rattle.passes.proofs.Fills.{level_kept, first_level, next_level, room_level, room_under}
+use Rattle.passes.proofs.Fills.{level_kept, first_level, next_level, room_level, room_under, pairs_room}
 use Rattle.passes.proofs.metastages.levels.Goals as goal
 
 pub loop-many-init : goal.loop-many-init
@@ -27,30 +27,16 @@ loop-many-init g c =
       λ i h. let e : i ≡ 0 = omega arith in subst (λ a. Level o w m c.args.base a (level_size n a) tb) (sym e) (λ j s t l. first j s t (omega arith)),
     )
 
--- the room of this level and the next, as the code counts it
 pub overflow_mul-to : goal.overflow_mul-to
 overflow_mul-to g c =
-    let w = g.T.Trellis.states in
-    let n = (g.T.Trellis.meaning c.args.t.now).stages in
-    let v = c.state_count-states.result in
-    let few = (g.T.Trellis.lawful c.args.t.now).few_stages in
-    let is = c.loop-many.invariant.1 in
-    let r = room_level n c.loop-many.level (w * w) few (omega arith) in
-    let e : c.loop-many.many * (v * v) ≡ c.loop-many.many * (w * w) = ap (λ v. c.loop-many.many * (v * v)) c.state_count-states.ensures in
-    let f = ap (λ a. a * (w * w)) c.loop-many.invariant.1 in
+    let r = pairs_room c.args.base g.T.Trellis.states c.state_count-states.result (g.T.Trellis.meaning c.args.t.now).stages c.loop-many.level c.loop-many.many c.loop-many.from (length c.loop-many.table) c.state_count-states.ensures
+    (g.T.Trellis.lawful c.args.t.now).few_stages c.loop-many.invariant.1 (omega arith) c.loop-many.invariant.3 (omega arith) in
     omega arith
 
 pub overflow_add-to : goal.overflow_add-to
 overflow_add-to g c =
-    let w = g.T.Trellis.states in
-    let n = (g.T.Trellis.meaning c.args.t.now).stages in
-    let v = c.state_count-states.result in
-    let few = (g.T.Trellis.lawful c.args.t.now).few_stages in
-    let is = c.loop-many.invariant.1 in
-    let r = room_level n c.loop-many.level (w * w) few (omega arith) in
-    let e : c.loop-many.many * (v * v) ≡ c.loop-many.many * (w * w) = ap (λ v. c.loop-many.many * (v * v)) c.state_count-states.ensures in
-    let f = ap (λ a. a * (w * w)) c.loop-many.invariant.1 in
-    let at = c.loop-many.invariant.3 in
+    let r = pairs_room c.args.base g.T.Trellis.states c.state_count-states.result (g.T.Trellis.meaning c.args.t.now).stages c.loop-many.level c.loop-many.many c.loop-many.from (length c.loop-many.table) c.state_count-states.ensures
+    (g.T.Trellis.lawful c.args.t.now).few_stages c.loop-many.invariant.1 (omega arith) c.loop-many.invariant.3 (omega arith) in
     omega arith
 
 pub overflow_add-many : goal.overflow_add-many
@@ -63,19 +49,10 @@ overflow_add-many g c =
 
 pub pairs-requires : goal.pairs-requires
 pairs-requires g c =
-    let w = g.T.Trellis.states in
-    let n = (g.T.Trellis.meaning c.args.t.now).stages in
-    let l = c.loop-many.level in
-    let v = c.state_count-states.result in
-    let few = (g.T.Trellis.lawful c.args.t.now).few_stages in
-    let is = c.loop-many.invariant.1 in
-    let r = room_level n l (w * w) few (omega arith) in
-    let e : c.loop-many.many * (v * v) ≡ c.loop-many.many * (w * w) = ap (λ v. c.loop-many.many * (v * v)) c.state_count-states.ensures in
-    let f = ap (λ a. a * (w * w)) c.loop-many.invariant.1 in
-    let at = c.loop-many.invariant.3 in
-    let h : (c.loop-many.many + 1) / 2 * (v * v) ≡ level_size n (suc l) * (w * w) = ap (λ v. (c.loop-many.many + 1) / 2 * (v * v)) c.state_count-states.ensures ∙ ap (λ a. (a + 1) / 2 * (w * w)) is ∙ ap (λ a. a * (w * w)) (sym (size_suc n l)) in
-    let fw = (g.T.Trellis.lawful c.args.t.now).few_states in
+    let few = (g.T.Trellis.lawful c.args.t.now).few_states in
     let q = c.state_count-states.ensures in
+    let r = pairs_room c.args.base g.T.Trellis.states c.state_count-states.result (g.T.Trellis.meaning c.args.t.now).stages c.loop-many.level c.loop-many.many c.loop-many.from (length c.loop-many.table) c.state_count-states.ensures
+    (g.T.Trellis.lawful c.args.t.now).few_stages c.loop-many.invariant.1 (omega arith) c.loop-many.invariant.3 (omega arith) in
     record { few = omega arith; room = omega arith; apart = omega arith }
 
 pub loop-many-preserved : goal.loop-many-preserved
