@@ -11,6 +11,7 @@ pub struct Edge {
     pub cost: u32,
 }
 
+// Three functions ask that the bits are at most 8: a type for them would be made for one call of each, and taken apart there.
 /// How many words have so many bits.
 pub fn word_count(bits: usize) -> usize
     requires { bits ≤ 8 }

@@ -50,6 +50,7 @@ impl<'a, 'b> Inner<'a, 'b> {
         word_count(self.m)
     }
 
+    // That `k` is a symbol's is asked by three private functions: `paths::Stage` says it of a trellis, and these make it one.
     /// What symbol `k` costs in each slot.
     fn row(&self, k: usize) -> &[u8]
         requires { k < self.now.n }
