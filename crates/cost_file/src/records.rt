@@ -7,7 +7,7 @@ use plans::PlanValues;
 
 /// The kinds of records, in the order in which they stand.
 #[derive(Clone, Copy, PartialEq, Eq, Debug)]
-pub enum Kind {
+pub(crate) enum Kind {
     Plan = 1,
     Row = 2,
     Payload = 3,

@@ -8,6 +8,7 @@ use cost_file::write;
 use encoder::{encode, lay_clean};
 use plans::{Plan, PlanValues, Refusal};
 use std::alloc::{AllocError, Global};
+use std::error::Error;
 use std::fmt;
 
 /// The slots that are sent, the costs of all slots, and the file.
@@ -19,7 +20,7 @@ pub struct Block {
 }
 
 /// Why there is no block.
-#[derive(Clone, Copy, Debug)]
+#[derive(Clone, Copy, PartialEq, Eq, Debug)]
 pub enum Trouble {
     Refused(Refusal),
     Memory,
@@ -29,10 +30,12 @@ impl fmt::Display for Trouble {
     fn fmt<W: fmt::Write>(&self, f: &mut fmt::Formatter<W>) -> fmt::Result {
         match self {
             Trouble::Refused(refusal) => write!(f, "refused {refusal}"),
-            Trouble::Memory => write!(f, "no memory"),
+            Trouble::Memory => f.write_str("no memory"),
         }
     }
 }
+
+impl Error for Trouble {}
 
 impl From<Refusal> for Trouble {
     fn from(refusal: Refusal) -> Trouble {

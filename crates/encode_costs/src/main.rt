@@ -50,6 +50,7 @@ fn run(rt: &HostRuntime) -> anyhow::Result<()> {
     Ok(())
 }
 
+// As `show_entries` of three_ways: two programs share no crate of their own.
 fn show_list(rt: &HostRuntime, name: &str, numbers: &[u8]) -> io::Result<()> {
     print!(rt; "{name}")?;
     for x in numbers {

@@ -14,7 +14,7 @@ pub struct Request {
     pub file: Option<String>,
 }
 
-// The number that a word is, or none where there is no word or it is none.
+// The number that a word spells; none where there is no word, or where it spells no number.
 fn parsed<T: FromStr>(word: Option<String>) -> Option<T>
 where
     T::Err: Drop,
@@ -22,7 +22,7 @@ where
     word?.as_str().parse().ok()
 }
 
-// The request that these words make, or none where a number is missing or is none.
+// The request that these words make; none where a number is missing, or where a word spells no number.
 fn read_words(mut words: Args) -> Option<Request> {
     Some(Request {
         bits: parsed(words.next())?,
@@ -33,7 +33,7 @@ fn read_words(mut words: Args) -> Option<Request> {
     })
 }
 
-/// The request, or none where a number is missing or is none.
+/// What the caller asks for; none where a number is missing, or where a word spells no number.
 pub(crate) fn asked(rt: &HostRuntime) -> io::Result<Option<Request>> {
     let mut words = env::args(rt)?;
     let _name = words.next();

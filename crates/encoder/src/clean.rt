@@ -6,8 +6,7 @@ ghost use Rattle.encoder.specs.Clean.{clean_cost, Lays};
 
 use plans::{Plan, PlanValues, Refusal};
 
-// What one slot of a clean block costs, counted over all rows: what is written through
-// `chunks_exact_mut`, a row at a time, would be lost to a proof.
+// What one slot of a clean block costs, counted over all rows.
 #[tactic(auto, using(std::proofs::lemmas::Nat::div_below))]
 fn cost_at(sent: &[u8], m: usize, cost: u8, i: usize) -> u8
     requires some { 0 < m }
@@ -28,6 +27,7 @@ fn fill(sent: &[u8], m: usize, cost: u8, rows: &mut [u8])
     requires sized { length rows.old ≡ length sent.now * m }
     ensures costs { rows.new ≡ map (clean_cost m sent.now cost) (range_with_len 0 (length sent.now * m)) }
 {
+    // Place by place: what is written through `chunks_exact_mut`, a row at a time, is lost to a proof.
     for (i, place) in rows.iter_mut().enumerate() {
         *place = cost_at(sent, m, cost, i);
     }

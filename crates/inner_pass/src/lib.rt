@@ -22,6 +22,7 @@ fn lay(bits: &[Option<i32>; 8], priors: &[i16], out: &mut [i16])
     requires beside { length priors.now ≡ length out.old }
     ensures { out.new ≡ map (λ b. told_of (slice_index_or bits.now b None) (slice_index_or priors.now b (pos 0))) (range_with_len 0 (length out.old)) }
 {
+    // By `zip` an invariant could not name what is written, as in `lay_row` of marginals.
     for (b, sent) in out.iter_mut().enumerate() {
         *sent = told(bits[b], priors[b]);
     }
@@ -38,7 +39,8 @@ pub fn inner_pass(way: Way, t: &Inner, table: &mut [u32], out: &mut [i16])
     work(way, t, table);
     let mut room = Room::new(0);
     let mut bits = [None; 8];
-    // The range is of stages: each has a part of the table, of the priors and of what is sent on.
+    // By number: the stages are asked of the trellis. The outer pass has the same loop; of one function that calls a closure for each
+    // stage a proof would know nothing of what the closure wrote.
     for k in 0..t.n {
         stage_reliabilities(way, &Stage::new(t, k), table, &mut room, &mut bits);
         let at = k * t.m;

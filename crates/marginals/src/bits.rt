@@ -12,6 +12,8 @@ use super::halves::fold;
 use super::room::Room;
 use paths::{Semiring, Stage, Trellis, Weights};
 
+// The stage and its two columns stay three parameters: a struct of the three references would be made for each call, and add a name
+// to each clause.
 /// For every bit of the words of a stage, what its edges with that bit 0 and with that bit 1 offer between a column before the
 /// stage and a column after it. Each edge is asked once, and joined into its word; the words are then folded by halves.
 pub fn marginals<T: Trellis, W: Weights>(

@@ -10,6 +10,7 @@ fn lay_row<W: Weights>(x: W::Value, after: &[W::Value], row: &mut [W::Value])
     requires { length row.old ≡ length after.now }
     ensures { (t : ℕ) → t < length after.now → slice_index_or row.new t W.ops.none ≡ W.ops.chain x (entry_of W.ops after.now t) }
 {
+    // By `zip` an invariant could not name what is written (tried).
     for (t, cell) in row.iter_mut().enumerate() {
         *cell = W::chain(x, after[t]);
     }
@@ -22,11 +23,13 @@ pub(crate) fn lay_frame<W: Weights>(before: &[W::Value], after: &[W::Value], fra
     ensures { (s t : ℕ) → s < length before.now → t < length after.now → slice_index_or frame.new (s * length after.now + t) W.ops.none ≡ W.ops.chain (entry_of W.ops before.now s) (entry_of W.ops after.now t) }
 {
     let states = after.len();
+    // Nor by `chunks_exact_mut`.
     for (s, x) in before.iter().enumerate() {
         lay_row::<W>(*x, after, &mut frame[s * states..s * states + states]);
     }
 }
 
+// The number of bits stands beside the array, as at `fold`.
 /// Sets every word of so many bits to the value of no path.
 pub(crate) fn clear<W: Weights>(bits: usize, words: &mut [W::Value; 256])
     requires { bits ≤ 8 }

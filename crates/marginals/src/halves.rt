@@ -18,6 +18,7 @@ fn halve<W: Weights>(b: usize, words: &mut [W::Value; 256]) -> ByBit<W::Value>
     let mut zero = W::none();
     let mut one = W::none();
     let (lows, highs) = words.split_at_mut(word_count(b));
+    // By `zip` an invariant could not name what is written, as in `lay_row`.
     for (x, low) in lows.iter_mut().enumerate() {
         let high = highs[x];
         zero = W::join(zero, *low);
@@ -37,8 +38,8 @@ pub(crate) fn fold<W: Weights>(
     ensures zero { (b : ℕ) → b < bits → (slice_index_or found.new b (neither W.ops)).zero ≡ lower W.ops (held W.ops words.old) bits b }
     ensures one { (b : ℕ) → b < bits → (slice_index_or found.new b (neither W.ops)).one ≡ upper W.ops (held W.ops words.old) bits b }
 {
-    // The range is of bits, from the highest down: each turn folds the words by its bit. Their number stands beside the array,
-    // since a part of an array in a struct comes back from a call under a name that no proof can cite (tried).
+    // By number: of places lent by `iter_mut().enumerate().rev()` a proof knows nothing after, and a part of an array in a struct comes
+    // back from a call under a name that no proof can cite (both tried). So the number of bits stands beside the array.
     for b in (0..bits).rev() {
         found[b] = halve::<W>(b, words);
     }

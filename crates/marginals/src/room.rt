@@ -21,6 +21,7 @@ pub struct Room<V> {
     pub bits: [ByBit<V>; 8],
 }
 
+// By hand: of a derived `Clone` over arrays of a parameter the proof did not close.
 impl<V: Copy> Copy for Room<V> {}
 
 impl<V: Copy> Clone for Room<V> {

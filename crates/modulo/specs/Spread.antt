@@ -19,6 +19,10 @@ pub record Served (states ceiling bits reach : ℕ) (m : Meaning) : Type 0 where
   pub connected : Connected states ceiling bits reach m
   pub modest : (2 * reach + 1) * ceiling < 32768
 
+-- some reach, and with it a ceiling so low that numbers modulo 65,536 serve every trellis that has them
+abbrev pub IsModest : ℕ → ℕ → Type 0
+IsModest reach ceiling = (1 ≤ reach) × ((2 * reach + 1) * ceiling < 32768)
+
 -- the finite entries of one column lie within reach * ceiling of each other
 pub record SpreadAt (states spread : ℕ) (column : ℕ → ℕ) : Type 0 where
   pub near : (s t : ℕ) → s < states → t < states → column s < top → column t < top → column s ≤ column t + spread

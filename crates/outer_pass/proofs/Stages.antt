@@ -15,8 +15,6 @@ use Rattle.reliabilities.proofs.Bounds.{wider}
 use Rattle.reliabilities.specs.ModuloTells.{connected}
 use Rattle.reliabilities.proofs.Stages.{told_bounded}
 use Rattle.extrinsics.specs.Extrinsics.{reliability_of, sent_on}
-use Rattle.ways.specs.declared.names.Way.{Way}
-use Rattle.ways.specs.WorkTables.{work_table}
 use Rattle.outer_pass.specs.OuterPass.{outer_extrinsic, data_reliability, decision}
 use Rattle.outer_pass.specs.Read.{decided_of}
 

@@ -37,7 +37,7 @@ pub fn outer_pass(
     work(way, t, table);
     let mut room = Room::new(0);
     let mut bits = [None; 8];
-    // The range is of stages: each has two places of `out`, and one of `found` and `decided`, which are lent apart.
+    // By number: the stages are asked of the trellis. `found` and `decided` are two buffers, as C lends them.
     for k in 0..t.n {
         stage_reliabilities(way, &Stage::new(t, k), table, &mut room, &mut bits);
         out[2 * k] = told(bits[0], t.priors[2 * k]);

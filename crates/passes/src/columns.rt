@@ -64,8 +64,8 @@ pub(crate) fn border<W: Weights, F: Fn(usize) -> bool>(column: &mut [W::Value], 
     }
 }
 
-// The trellis, the table and the base of its metastages stay three parameters: callers read and lend the table between the passes,
-// which a struct that holds it, with the fact that the metastages stand, would keep from them.
+// The trellis, the table and the base of its metastages stay three parameters, here and in `backward`, `levels` and `by_levels`: a struct
+// that holds the lent table, with the fact that the metastages stand, would be made anew after each call, as each adds a fact to it.
 /// Lays the forward columns: entry s of column k joins what leads through the first `k` stages to s.
 pub fn forward<T: Trellis, W: Weights>(t: &T, table: &mut [W::Value], base: usize)
     requires room { (columns_size T.states (T.meaning t.now).stages ≤ base) × (base + (T.meaning t.now).stages * (T.states * T.states) ≤ length table.old) }

@@ -42,6 +42,7 @@ pub(crate) fn product<W: Weights>(
     }
 }
 
+// The number of states and where parts begin are passed as at `column`.
 // A level's neighbours in pairs, a last odd one stored again unchanged.
 fn pairs<W: Weights>(table: &mut [W::Value], from: usize, to: usize, many: usize, states: usize)
     requires few { states ≤ 16 }

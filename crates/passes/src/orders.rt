@@ -12,6 +12,7 @@ use paths::{Semiring, Trellis, Weights};
 
 /// What is remembered of a stage: where the block that begins with it ends, 0 where none begins (no block ends there),
 /// and where the block that ends with it begins.
+// `end` is a number and no `Option`: no block ends at 0, and an end is compared and counted with wherever it is read.
 #[derive(Clone, Copy, PartialEq, Eq, Debug)]
 pub struct Span {
     pub end: usize,

@@ -11,7 +11,7 @@ pub struct Edge {
     pub cost: u32,
 }
 
-// Three functions ask that the bits are at most 8: a type for them would be made for one call of each, and taken apart there.
+// That a word has at most 8 bits is asked by several functions: a type for so many bits would be made for one call of each, and taken apart there.
 /// How many words have so many bits.
 pub fn word_count(bits: usize) -> usize
     requires { bits ≤ 8 }

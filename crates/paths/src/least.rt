@@ -23,6 +23,7 @@ impl Weights for LeastCost {
 
     ghost little = { lit≤ _ };
 
+    // A number and no `Option`: the work table holds plain numbers, which C and cost files know.
     fn none() -> u32 {
         u32::MAX
     }

@@ -31,6 +31,7 @@ impl Weights for LeastCostWithTies {
 
     ghost little = { lit≤ _ };
 
+    // The cost is a number and no `Option`, as that of `LeastCost`.
     fn none() -> Tied {
         Tied {
             cost: u32::MAX,

@@ -31,15 +31,15 @@ pub trait Trellis {
 
     // A clause can name a constant by a ghost member of its name, but the check does not tie the two in an impl with a
     // lifetime, as those of the trellises over lent tables are: so each constant has a function, with a ghost number.
-    /// `STATES`.
+    /// How many states it has: `STATES`.
     fn state_count() -> usize
         ensures { result ≡ states };
 
-    /// `CEILING`.
+    /// The highest cost of an edge: `CEILING`.
     fn cost_ceiling() -> u32
         ensures { result ≡ ceiling };
 
-    /// `REACH`.
+    /// In how many stages every state is reached from every state, or 0: `REACH`.
     fn stage_reach() -> usize
         ensures { result ≡ reach };
 
@@ -64,6 +64,7 @@ pub trait Trellis {
     fn edge(&self, k: usize, i: usize) -> Option<Edge>
         ensures { result ≡ edge_at (meaning self.now) k i };
 
+    // An array as long as the largest stage asks, here and wherever costs, words or the bits of a word are laid: a pass allocates nothing.
     /// Lays the cost of each edge of stage `k` at the edge's place; beyond the last stage nothing changes.
     fn costs(&self, k: usize, out: &mut [u32; 512])
         ensures laid { (i : ℕ) (e : Edge) → edge_at (meaning self.now) k i ≡ Some e → slice_index out.new i ≡ e.cost }

@@ -13,7 +13,7 @@ pub struct Plan {
     ghost accepted: { plan_refusal values ≡ None },
 }
 
-// Numbers whose payload has a length that is served.
+// Numbers whose payload is not too long: what follows from them fits.
 #[derive(Clone, Copy)]
 struct SizedValues {
     values: PlanValues,

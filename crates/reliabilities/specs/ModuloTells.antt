@@ -6,7 +6,7 @@ use Rattle.paths.specs.Columns.{forward, backward}
 use Rattle.paths.specs.Least.{top}
 use Rattle.marginals.proofs.Lawful.{agreeing}
 use Rattle.modulo.specs.Modulo.{modulo, Stands, reliability_modulo}
-use Rattle.modulo.specs.Spread.{Connected, Served}
+use Rattle.modulo.specs.Spread.{Connected, Served, IsModest}
 use Rattle.modulo.proofs.Stand.{columns_stand}
 use Rattle.modulo.proofs.Bits.{bits_stand}
 use Rattle.reliabilities.specs.Kept.{kept_modulo, Tells}
@@ -30,7 +30,7 @@ unfolding kept_modulo
 kept_stands x y (inl p) = rw (eq-eqb x top p.0) (sym p.1)
 kept_stands x y (inr p) = let low = p.0 in rw (ne_eqb x top (λ e. omega arith)) (sym p.1)
 
-pub modulo_tells : Tells modulo kept_modulo (λ reach ceiling. (1 ≤ reach) × ((2 * reach + 1) * ceiling < 32768)) (λ zero one. Unit {0}) reliability_modulo
+pub modulo_tells : Tells modulo kept_modulo IsModest (λ zero one. Unit {0}) reliability_modulo
 modulo_tells states ceiling bits reach m law reaches serves k here f g forth back b x y zero one =
     let h = served m law reaches serves.0 serves.1 in
     let p = λ (s : ℕ) (l : s < states). forth s l ∙ ap kept_modulo (sym ((columns m law).forth k s (omega arith) l)) ∙ kept_stands _ _ (columns_stand states ceiling bits reach m h k s (omega arith) l).0 in

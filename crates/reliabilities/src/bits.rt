@@ -17,6 +17,7 @@ fn tell<W: CostKeeping>(found: &[ByBit<u32>], out: &mut [Option<i32>])
     requires can { (b : ℕ) → b < length found.now → W.CanTell (slice_index_or found.now b (neither W.Weights.ops)).zero (slice_index_or found.now b (neither W.Weights.ops)).one }
     ensures { (b : ℕ) → b < length out.old → slice_index_or out.new b None ≡ W.told (slice_index_or found.now b (neither W.Weights.ops)).zero (slice_index_or found.now b (neither W.Weights.ops)).one }
 {
+    // By `zip` an invariant could not name what is written, as in `lay_row` of marginals.
     for (b, told) in out.iter_mut().enumerate() {
         *told = W::reliability(found[b].zero, found[b].one);
     }

@@ -2,7 +2,7 @@
 
 ghost use Rattle.std.specs.Prelude.{◌≡◌, ℕ, ◌+◌, ◌*◌, ◌<◌, ◌≤◌, ℤ, Option};
 ghost use Rattle.modulo.specs.Modulo.{reliability, reliability_modulo};
-ghost use Rattle.modulo.specs.Spread.{Near};
+ghost use Rattle.modulo.specs.Spread.{IsModest, Near};
 ghost use Rattle.reliabilities.specs.Kept.{kept_modulo, Tells};
 ghost use Rattle.reliabilities.specs.LeastTells.{least_tells};
 ghost use Rattle.reliabilities.specs.ModuloTells.{modulo_tells};
@@ -51,7 +51,7 @@ impl CostKeeping for LeastCost {
 impl CostKeeping for ModuloCost {
     ghost kept = { kept_modulo };
 
-    ghost Serves = { λ reach ceiling. (1 ≤ reach) × ((2 * reach + 1) * ceiling < 32768) };
+    ghost Serves = { IsModest };
 
     ghost CanTell = { λ zero one. Unit {0} };
 

@@ -1,7 +1,5 @@
 //! What the calls of a run answer.
 
-use plans::Refusal;
-
 /// A number that was asked for.
 #[derive(Clone, Copy, PartialEq, Eq, Debug)]
 pub enum Reading {
@@ -12,7 +10,8 @@ pub enum Reading {
     Ties(u8),
 }
 
-/// The answer of a call.
+/// The answer of a call that is not refused. A call gives a `Result`, whose error is the first question that was answered no;
+/// then nothing has changed.
 #[derive(Clone, Copy, PartialEq, Eq, Debug)]
 pub enum Answer {
     /// A row, an inner or an outer pass was accepted.
@@ -22,6 +21,4 @@ pub enum Answer {
     Read(Reading),
     /// The payload was taken: so many bytes.
     Taken(usize),
-    /// The first question that was answered no. Nothing has changed.
-    Refused(Refusal),
 }

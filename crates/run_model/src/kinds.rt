@@ -24,7 +24,8 @@ pub enum Kind {
 #[derive(Clone, Copy, PartialEq, Eq, Debug)]
 pub struct UnknownKind;
 
-// Ways convert in the same words: an impl of a trait of std is written for each type, as none may be by a macro.
+// Ways, refusals and layers convert in the same words: an impl whose ghost member a clause reads is written by hand for each type, and
+// each that may fail has an error of its own.
 /// The number that names a kind.
 impl From<Kind> for u8 {
     ghost from_gives = { λ kind n. n ≡ kind_number kind };

@@ -4,6 +4,7 @@ ghost use Rattle.std.specs.Prelude.{◌≡◌, ℕ, ◌+◌, ◌*◌, ◌<◌, �
 ghost use Rattle.paths.specs.Paths.{path_join, paths_with};
 ghost use Rattle.paths.specs.Least.{least};
 ghost use Rattle.modulo.specs.Modulo.{reliability};
+ghost use Rattle.modulo.specs.Spread.{IsModest};
 ghost use Rattle.passes.specs.Tables.{columns_size};
 ghost use Rattle.ways.specs.declared.names.Way.{Way};
 ghost use Rattle.ways.specs.declared.names.Way.TheVariants.{Modular};
@@ -27,7 +28,7 @@ pub fn stage_reliabilities<T: Trellis>(
     requires long { columns_size T.states (T.meaning stage.now.trellis.now).stages + columns_size T.states (T.meaning stage.now.trellis.now).stages ≤ length table.now }
     requires worked { (p : ℕ) → p < columns_size T.states (T.meaning stage.now.trellis.now).stages + columns_size T.states (T.meaning stage.now.trellis.now).stages → slice_index table.now p ≡ work_entry way T.states (T.meaning stage.now.trellis.now) p }
     requires cheap { T.ceiling < 131072 }
-    requires served { way ≡ Modular → (1 ≤ T.reach) × ((2 * T.reach + 1) * T.ceiling < 32768) }
+    requires served { way ≡ Modular → IsModest T.reach T.ceiling }
     ensures told { (b : ℕ) → b < T.bits stage.now.trellis.now → slice_index_or out.new b None ≡ reliability (path_join least (paths_with T.states (T.meaning stage.now.trellis.now) stage.now.number b 0)) (path_join least (paths_with T.states (T.meaning stage.now.trellis.now) stage.now.number b 1)) }
 {
     let states = T::state_count();
@@ -35,7 +36,7 @@ pub fn stage_reliabilities<T: Trellis>(
     let back = stage.trellis.stages() * states + states + front + states;
     let before = &table[front..front + states];
     let after = &table[back..back + states];
-    // A way comes as a value, and there are three: each keeps its least costs in one of two forms.
+    // A way comes as a value, and becomes a type parameter at this one match; a closure or a `dyn` for each way would be chosen by the same match.
     match way {
         Way::Columns | Way::Metastages => stage_bits::<T, LeastCost>(
             stage, before, after, room, out,

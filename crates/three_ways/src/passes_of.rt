@@ -27,7 +27,7 @@ pub(crate) fn show_pass(
     let mut room = Room::new(0);
     let mut bits = [None; 8];
     let mut found = [None; 4];
-    // By number: each stage has its part of what is found.
+    // By number: the stages are asked of the trellis.
     for k in 0..2 {
         stage_reliabilities(way, &Stage::new(t, k), table, &mut room, &mut bits);
         found[2 * k..2 * k + 2].copy_from_slice(&bits[..2]);

@@ -50,7 +50,7 @@ impl<'a, 'b> Inner<'a, 'b> {
         word_count(self.m)
     }
 
-    // That `k` is a symbol's is asked by three private functions: `paths::Stage` says it of a trellis, and these make it one.
+    // That `k` is below `n` is asked by private functions alone: `Stage` would say it of a trellis, and needs the impl whose body these are.
     /// What symbol `k` costs in each slot.
     fn row(&self, k: usize) -> &[u8]
         requires { k < self.now.n }

@@ -45,6 +45,7 @@ impl<'a> Outer<'a> {
         Outer { n, priors }
     }
 
+    // That `k` is below `n` is asked here as in the inner trellis.
     /// What the two coded bits of data bit `k` cost by their priors.
     fn cost(&self, k: usize, state: usize, u: usize) -> u32
         requires { (k < self.now.n) × ((state < 4) × (u < 2)) }

@@ -13,6 +13,7 @@ pub(crate) fn add_row(row: &[u8], slots: &[u8], out: &mut [u32; 512])
 {
     let size = slots.len();
     let (zero, one) = out.split_at_mut(size);
+    // By `zip` an invariant could not name what is written, as in `lay_row` of marginals.
     for (w, &slot) in slots.iter().enumerate() {
         let slot = usize::from(slot);
         let paid = zero[w];

@@ -5,6 +5,7 @@ ghost use Rattle.trellises.specs.Inner.{slot_of};
 
 use paths::word_count;
 
+// The size stands beside the array in both: a slice of twice the size would have its half asked again.
 // Like `double` of words.rt in shape alone: one function for both would need a type of entries, a closure that makes two of
 // one, and a clause with a pair for every entry, where each now has two sums.
 /// The slots of twice as many words: those with one more bit zero repeat the last accumulated bit, those with it one turn it.
@@ -15,6 +16,7 @@ fn double(slots: &mut [u8; 256], size: usize)
     ensures high { (w : ℕ) → w < size → slice_index slots.new (size + w) ≡ 2 * slice_index slots.old w + (1 - slice_index slots.old w % 2) }
 {
     let (low, high) = slots.split_at_mut(size);
+    // By `zip` an invariant could not name what is written, as in `lay_row` of marginals.
     for (w, slot) in low.iter_mut().enumerate() {
         let last = *slot % 2;
         high[w] = 2 * *slot + (1 - last);

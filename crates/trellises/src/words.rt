@@ -29,6 +29,7 @@ fn double(out: &mut [u32; 512], size: usize, zero: u32, one: u32)
     ensures high { (w : ℕ) → w < size → slice_index out.new (size + w) + zero ≡ slice_index out.old w + one }
 {
     let (low, high) = out.split_at_mut(size);
+    // By `zip` an invariant could not name what is written, as in `lay_row` of marginals.
     for (w, &paid) in low.iter().enumerate() {
         high[w] = paid + one - zero;
     }

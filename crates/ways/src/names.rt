@@ -22,7 +22,8 @@ pub enum Way {
 #[derive(Clone, Copy, PartialEq, Eq, Debug)]
 pub struct UnknownWay;
 
-// The kinds of a reading convert in the same words: an impl of a trait of std is written for each type, as none may be by a macro.
+// Kinds of readings, refusals and layers convert in the same words: an impl whose ghost member a clause reads is written by hand for each
+// type, and each that may fail has an error of its own.
 /// The number that names a way.
 impl From<Way> for u8 {
     ghost from_gives = { λ way n. n ≡ way_number way };

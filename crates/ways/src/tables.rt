@@ -1,6 +1,7 @@
 //! The work table of a pass, as each way leaves it.
 
 ghost use Rattle.std.specs.Prelude.{◌≡◌, ℕ, ◌+◌, ◌*◌, ◌<◌, ◌≤◌, length, slice_index};
+ghost use Rattle.modulo.specs.Spread.{IsModest};
 ghost use Rattle.passes.specs.Tables.{columns_size, Stages, Forward, Backward};
 ghost use Rattle.passes.specs.Levels.{levels_room};
 ghost use Rattle.ways.specs.WorkTables.{work_entry, work_table};
@@ -38,11 +39,11 @@ fn zero_from(table: &mut [u32], from: usize)
 /// Works a pass in the way that is named, and leaves its columns and metastages in the table; whatever else stood there is cleared.
 pub fn work<T: Trellis>(way: Way, t: &T, table: &mut [u32])
     requires room { columns_size T.states (T.meaning t.now).stages + columns_size T.states (T.meaning t.now).stages + levels_room T.states (T.meaning t.now).stages ≤ length table.old }
-    requires served { way ≡ Way.Modular → (1 ≤ T.reach) × ((2 * T.reach + 1) * T.ceiling < 32768) }
+    requires served { way ≡ Way.Modular → IsModest T.reach T.ceiling }
     ensures table { (p : ℕ) → p < length table.new → slice_index table.new p ≡ work_entry way T.states (T.meaning t.now) p }
     ensures whole { table.new ≡ work_table way T.states (T.meaning t.now) (length table.old) }
 {
-    // A way comes as a value, and there are three: each lays columns in one of two forms, and one of them metastages behind.
+    // A way comes as a value, and becomes a type parameter at this one match; a closure or a `dyn` for each way would be chosen by the same match.
     let used = match way {
         Way::Columns => sweep::<T, LeastCost>(t, table),
         Way::Metastages => {

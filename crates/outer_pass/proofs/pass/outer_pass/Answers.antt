@@ -1,4 +1,4 @@
-use Rattle.std.proofs.Common.{◌≡◌, ◌+◌, ◌*◌, length, get_or, pos, sym, ap, ◌∙◌, arith, w16, SFits, to_z, of_z, rules}
+use Rattle.std.proofs.Common.{◌≡◌, ◌+◌, ◌*◌, get_or, pos, sym, ap, ◌∙◌, arith, w16, SFits, to_z, of_z, rules}
 use Rattle.std.proofs.lemmas.Int.{to_z-of_z}
 use Rattle.trellises.specs.declared.outer.Outer.{Outer}
 use Rattle.ways.specs.WorkTables.{work_entry}

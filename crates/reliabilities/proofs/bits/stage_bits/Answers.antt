@@ -39,12 +39,12 @@ returns g c =
     let few = law.few_bits in
     let long : length (take n c.args.out.now) ≡ n = omega (arith, length-take n c.args.out.now) in
     let told : TrueBits g.T.Trellis.states m s.number (g.T.Trellis.bits t) (c.tell.new.out ++ drop n c.args.out.now) = λ b low.
-      let at = get_or-take n c.marginals.new.room.bits b (neither o) (omega arith) in
-      get_or_append_left c.tell.new.out (drop n c.args.out.now) None b (omega arith)
-      ∙ c.tell.ensures b (omega arith)
-      ∙ ap (λ (y : ByBit ℕ). g.W.CostKeeping.told y.zero y.one) at
-      ∙ (g.met.W.CostKeeping.tells _ _ _ _ m law (g.T.Trellis.reaches t) c.requires.served s.number s.inside
-        (entry_of o c.args.front.now) (entry_of o c.args.back.now) f k b _ _ (e.zero b low) (e.one b low)).1 in
+    let at = get_or-take n c.marginals.new.room.bits b (neither o) (omega arith) in
+    get_or_append_left c.tell.new.out (drop n c.args.out.now) None b (omega arith)
+    ∙ c.tell.ensures b (omega arith)
+    ∙ ap (λ (y : ByBit ℕ). g.W.CostKeeping.told y.zero y.one) at
+    ∙ (g.met.W.CostKeeping.tells _ _ _ _ m law (g.T.Trellis.reaches t) c.requires.served s.number s.inside
+    (entry_of o c.args.front.now) (entry_of o c.args.back.now) f k b _ _ (e.zero b low) (e.one b low)).1 in
     record {
       told = told;
       bound = λ some cheap b low. told_bounded m (connected m law (g.T.Trellis.reaches t) some cheap) s.number b s.inside _ (told b low);
