@@ -69,6 +69,7 @@ fn show_block(rt: &HostRuntime, block: &Block, payload: &[u8]) -> io::Result<()>
     }
 }
 
+// The output says yes and no, where `Display` of a `bool` says true and false.
 fn word(same: bool) -> &'static str {
     if same { "yes" } else { "no" }
 }
