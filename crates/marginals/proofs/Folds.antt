@@ -1,6 +1,7 @@
 -- The words folded from the highest bit down to bit b.
 use Rattle.std.proofs.Common.{◌≡◌, ℕ, zero, suc, ◌+◌, ◌-◌, ◌*◌, ◌^◌, ◌<◌, ◌≤◌, ◌≢◌, List, length, get_or, set, sym, refl, ap, ◌∙◌, ⊎_elim, arith, get_or-set_other, get_or-set_same}
 use native.Mathlib.Nat.{pow-succ'}
+use Rattle.std.proofs.Math.Nat.{pow-le-pow_right}
 use Rattle.std.proofs.lemmas.Bool.{cases_eq}
 use Rattle.paths.specs.Semirings.{Operations}
 use Rattle.paths.specs.Columns.{join_below}
@@ -13,27 +14,35 @@ unfolding join_below
 below_same o f g zero same = refl
 below_same o f g (suc n) same = ap (λ u. o.join u (f n)) (below_same o f g n (λ v h. same v (omega arith))) ∙ ap (o.join (join_below o n g)) (same n (omega arith))
 
+-- what lies past a power of two lies past each lower one
+pow-up : (b j x : ℕ) → b ≤ j → 2 ^ j ≤ x → 2 ^ b ≤ x
+pow-up b j x h k = let p : 2 ^ b ≤ 2 ^ j = pow-le-pow_right {n = 2} (omega arith) h in omega arith
+
 -- the words as they stand when the bits from b on are folded, with the marginals of those bits
-pub record Folded {W : Type 0} (o : Operations W) (bits b : ℕ) (old words : List W) (found : List (ByBit W)) : Type 0 where
+pub record Folded {W : Type 0} (o : Operations W) (bits b : ℕ) (old words : List W) (was found : List (ByBit W)) : Type 0 where
   pub left : (x : ℕ) → x < 2 ^ b → get_or words x o.none ≡ halved o (held o old) b (bits - b) x
   pub low : (j : ℕ) → b ≤ j → j < bits → (get_or found j (neither o)).zero ≡ lower o (held o old) bits j
   pub high : (j : ℕ) → b ≤ j → j < bits → (get_or found j (neither o)).one ≡ upper o (held o old) bits j
+  pub behind : (j x : ℕ) → b ≤ j → j < bits → 2 ^ j ≤ x → x < 2 ^ suc j → get_or words x o.none ≡ halved o (held o old) (suc j) (bits - suc j) x
+  pub rest : (x : ℕ) → 2 ^ bits ≤ x → get_or words x o.none ≡ get_or old x o.none
+  pub found_rest : (j : ℕ) → bits ≤ j → get_or found j (neither o) ≡ get_or was j (neither o)
 
 module _ {W : Type 0} (o : Operations W) (bits : ℕ) (old : List W) where
-  pub fold_start : (found : List (ByBit W)) → Folded o bits bits old old found
+  pub fold_start : (found : List (ByBit W)) → Folded o bits bits old old found found
   unfolding halved
   fold_start found =
       let none : bits - bits ≡ 0 = omega arith in
-      record { left = λ x h. rw none; low = λ j up down. absurd (omega arith); high = λ j up down. absurd (omega arith) }
+      record { left = λ x h. rw none; low = λ j up down. absurd (omega arith); high = λ j up down. absurd (omega arith); behind = λ j x up down. absurd (omega arith); rest = λ x h. refl; found_rest = λ j h. refl }
 
   -- one bit more
-  pub fold_more : (b n : ℕ) (words new : List W) (found : List (ByBit W)) (bit : ByBit W) → Folded o bits n old words found → n ≡ suc b → n ≤ bits → b < length found
+  pub fold_more : (b n : ℕ) (words new : List W) (first found : List (ByBit W)) (bit : ByBit W) → Folded o bits n old words first found → n ≡ suc b → n ≤ bits → b < length found
       → bit.zero ≡ join_below o (2 ^ b) (λ x. get_or words x o.none)
       → bit.one ≡ join_below o (2 ^ b) (λ x. get_or words (2 ^ b + x) o.none)
       → ((x : ℕ) → x < 2 ^ b → get_or new x o.none ≡ o.join (get_or words x o.none) (get_or words (2 ^ b + x) o.none))
-      → Folded o bits b old new (set found b bit)
+      → ((x : ℕ) → 2 ^ b ≤ x → get_or new x o.none ≡ get_or words x o.none)
+      → Folded o bits b old new first (set found b bit)
   unfolding halved
-  fold_more b n words new found bit was is within room z u j =
+  fold_more b n words new first found bit was is within room z u j same =
       let d = bits - suc b in
       let f = held o old in
       let deep : bits - b ≡ suc d = omega arith in
@@ -52,4 +61,10 @@ module _ {W : Type 0} (o : Operations W) (bits : ℕ) (old : List W) where
             (λ e. ap (λ (y : ByBit W). y.one) (here j e) ∙ u ∙ below_same o _ _ (2 ^ b) (λ x h. at (2 ^ b + x) (omega arith)) ∙ ap (upper o f bits) (sym e))
             (λ (ne : j ≢ b). ap (λ (y : ByBit W). y.one) (there j ne) ∙ was.high j (omega arith) down)
             (cases_eq j b);
+        behind = λ j x up down above below. ⊎_elim
+            (λ e. same x (rw (← e) above) ∙ at x (rw (← e) below) ∙ ap (λ n. halved o f (suc n) (bits - suc n) x) (sym e))
+            (λ (ne : j ≢ b). same x (pow-up b j x (omega arith) above) ∙ was.behind j x (omega arith) down above below)
+            (cases_eq j b);
+        rest = λ x h. same x (pow-up b bits x (omega arith) h) ∙ was.rest x h;
+        found_rest = λ j h. there j (omega arith) ∙ was.found_rest j h;
       }

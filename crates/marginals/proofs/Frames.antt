@@ -38,6 +38,13 @@ module _ {W : Type 0} (d : W) (a k : ℕ) (xs ys : List W) (room : a ≤ length 
       ∙ ap (λ n. get_or (ys ++ post_of a k xs) n d) at
       ∙ get_or_append_left ys (post_of a k xs) d t h
 
+  pub put_behind : length ys ≡ k → a + k ≤ length xs → (p : ℕ) → a + k ≤ p → get_or (put_mid a k xs ys) p d ≡ get_or xs p d
+  put_behind long within p h =
+      let l = length_front in
+      let at : a + (k + (p - a - k)) ≡ p = omega arith in
+      get_or-append_right (take a xs) (ys ++ post_of a k xs) a p d l (omega arith) ∙ get_or-append_right ys (post_of a k xs) k (p - a) d long (omega arith)
+      ∙ get_or-drop k (drop a xs) (p - a - k) d ∙ get_or-drop a xs (k + (p - a - k)) d ∙ ap (λ i. get_or xs i d) at
+
 -- a part of n entries from a place on, at an entry of it
 pub part_entry : {W : Type 0} (d : W) (xs : List W) (at n s : ℕ) → s < n → get_or (take (at + n - at) (drop at xs)) s d ≡ get_or xs (at + s) d
 part_entry d xs at n s h =

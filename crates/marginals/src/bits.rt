@@ -4,6 +4,7 @@ ghost use Rattle.std.specs.Prelude.{◌≡◌, ℕ, suc, ◌<◌, ◌≤◌, len
 ghost use Rattle.paths.specs.Paths.{path_join, paths_with};
 ghost use Rattle.paths.specs.Columns.{forward, backward};
 ghost use Rattle.paths.specs.Joins.{Joins, candidate, edges_with};
+ghost use Rattle.marginals.specs.Rooms.{Leaves};
 ghost use Rattle.marginals.specs.Words.{entry_of, neither};
 
 use super::frame::{clear, lay_frame};
@@ -25,6 +26,7 @@ pub fn marginals<T: Trellis, W: Weights>(
     requires columns { (T.states ≤ length before.now) × (T.states ≤ length after.now) }
     ensures zero { (b : ℕ) → b < T.bits stage.now.trellis.now → Joins W.ops (candidate W.ops (entry_of W.ops before.now) (entry_of W.ops after.now) ((T.meaning stage.now.trellis.now).edges stage.now.number)) (edges_with ((T.meaning stage.now.trellis.now).edges stage.now.number) b 0) (slice_index_or room.new.bits b (neither W.ops)).zero }
     ensures one { (b : ℕ) → b < T.bits stage.now.trellis.now → Joins W.ops (candidate W.ops (entry_of W.ops before.now) (entry_of W.ops after.now) ((T.meaning stage.now.trellis.now).edges stage.now.number)) (edges_with ((T.meaning stage.now.trellis.now).edges stage.now.number) b 1) (slice_index_or room.new.bits b (neither W.ops)).one }
+    ensures room { Leaves W.ops T.states (T.bits stage.now.trellis.now) ((T.meaning stage.now.trellis.now).edges stage.now.number) (entry_of W.ops before.now) (entry_of W.ops after.now) room.old room.new }
 {
     let states = T::state_count();
     let bits = stage.trellis.bits();
@@ -47,6 +49,7 @@ pub fn bit_joins<T: Trellis, W: Semiring>(
     requires back { (s : ℕ) → s < T.states → slice_index_or after.now s W.Weights.ops.none ≡ backward W.Weights.ops T.states (T.meaning stage.now.trellis.now) (suc stage.now.number) s }
     ensures zero { (b : ℕ) → b < T.bits stage.now.trellis.now → (slice_index_or room.new.bits b (neither W.Weights.ops)).zero ≡ path_join W.Weights.ops (paths_with T.states (T.meaning stage.now.trellis.now) stage.now.number b 0) }
     ensures one { (b : ℕ) → b < T.bits stage.now.trellis.now → (slice_index_or room.new.bits b (neither W.Weights.ops)).one ≡ path_join W.Weights.ops (paths_with T.states (T.meaning stage.now.trellis.now) stage.now.number b 1) }
+    ensures room { Leaves W.Weights.ops T.states (T.bits stage.now.trellis.now) ((T.meaning stage.now.trellis.now).edges stage.now.number) (entry_of W.Weights.ops before.now) (entry_of W.Weights.ops after.now) room.old room.new }
 {
     marginals::<T, W>(stage, before, after, room);
 }

@@ -20,7 +20,8 @@ fn lay_row<W: Weights>(x: W::Value, after: &[W::Value], row: &mut [W::Value])
 pub(crate) fn lay_frame<W: Weights>(before: &[W::Value], after: &[W::Value], frame: &mut [W::Value])
     requires square { length after.now ≡ length before.now }
     requires room { length before.now * length after.now ≤ length frame.old }
-    ensures { (s t : ℕ) → s < length before.now → t < length after.now → slice_index_or frame.new (s * length after.now + t) W.ops.none ≡ W.ops.chain (entry_of W.ops before.now s) (entry_of W.ops after.now t) }
+    ensures laid { (s t : ℕ) → s < length before.now → t < length after.now → slice_index_or frame.new (s * length after.now + t) W.ops.none ≡ W.ops.chain (entry_of W.ops before.now s) (entry_of W.ops after.now t) }
+    ensures rest { (p : ℕ) → length before.now * length after.now ≤ p → slice_index_or frame.new p W.ops.none ≡ slice_index_or frame.old p W.ops.none }
 {
     let states = after.len();
     // Nor by `chunks_exact_mut`.
@@ -33,7 +34,8 @@ pub(crate) fn lay_frame<W: Weights>(before: &[W::Value], after: &[W::Value], fra
 /// Sets every word of so many bits to the value of no path.
 pub(crate) fn clear<W: Weights>(bits: usize, words: &mut [W::Value; 256])
     requires { bits ≤ 8 }
-    ensures { (w : ℕ) → w < 2 ^ bits → slice_index_or words.new w W.ops.none ≡ W.ops.none }
+    ensures clear { (w : ℕ) → w < 2 ^ bits → slice_index_or words.new w W.ops.none ≡ W.ops.none }
+    ensures rest { (w : ℕ) → 2 ^ bits ≤ w → slice_index_or words.new w W.ops.none ≡ slice_index_or words.old w W.ops.none }
 {
     words[..word_count(bits)].fill_with(|| W::none());
 }

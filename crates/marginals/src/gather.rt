@@ -1,6 +1,8 @@
 //! The edges of a stage gathered by their words.
 
-ghost use Rattle.std.specs.Prelude.{◌≡◌, ℕ, ◌+◌, ◌*◌, ◌^◌, ◌<◌, ◌≤◌, slice_index_or};
+ghost use Rattle.std.specs.Prelude.{◌≡◌, ℕ, ◌+◌, ◌*◌, ◌^◌, ◌<◌, ◌≤◌, length, Some, slice_index, slice_index_or};
+ghost use Rattle.std.specs.List.{slice_get};
+ghost use Rattle.paths.specs.declared.edges.Edge.{Edge};
 ghost use Rattle.paths.specs.Joins.{Joins};
 ghost use Rattle.marginals.specs.Words.{word_is, framed};
 
@@ -28,7 +30,10 @@ pub(crate) fn gather<T: Trellis, W: Weights>(
     words: &mut [W::Value; 256],
 )
     requires clear { (w : ℕ) → w < 2 ^ T.bits stage.now.trellis.now → slice_index_or words.old w W.ops.none ≡ W.ops.none }
-    ensures { (w : ℕ) → w < 2 ^ T.bits stage.now.trellis.now → Joins W.ops (framed W.ops T.states frame.now ((T.meaning stage.now.trellis.now).edges stage.now.number)) (word_is ((T.meaning stage.now.trellis.now).edges stage.now.number) w) (slice_index_or words.new w W.ops.none) }
+    ensures words { (w : ℕ) → w < 2 ^ T.bits stage.now.trellis.now → Joins W.ops (framed W.ops T.states frame.now ((T.meaning stage.now.trellis.now).edges stage.now.number)) (word_is ((T.meaning stage.now.trellis.now).edges stage.now.number) w) (slice_index_or words.new w W.ops.none) }
+    ensures words_rest { (w : ℕ) → 2 ^ T.bits stage.now.trellis.now ≤ w → slice_index_or words.new w W.ops.none ≡ slice_index_or words.old w W.ops.none }
+    ensures costs { (i : ℕ) (e : Edge) → slice_get ((T.meaning stage.now.trellis.now).edges stage.now.number) i ≡ Some e → slice_index costs.new i ≡ e.cost }
+    ensures costs_rest { (i : ℕ) → length ((T.meaning stage.now.trellis.now).edges stage.now.number) ≤ i → slice_index costs.new i ≡ slice_index costs.old i }
 {
     let states = T::state_count();
     stage.costs(costs);

@@ -43,9 +43,10 @@ impl<'t, T: Trellis> Stage<'t, T> {
         self.trellis.edge(self.number, i).unwrap()
     }
 
-    /// Lays the cost of each edge at the edge's place.
+    /// Lays the cost of each edge at the edge's place; the rest stays.
     pub fn costs(&self, out: &mut [u32; 512])
-        ensures { (i : ℕ) (e : Edge) → slice_get ((T.meaning self.now.trellis.now).edges self.now.number) i ≡ Some e → slice_index out.new i ≡ e.cost }
+        ensures laid { (i : ℕ) (e : Edge) → slice_get ((T.meaning self.now.trellis.now).edges self.now.number) i ≡ Some e → slice_index out.new i ≡ e.cost }
+        ensures rest { (i : ℕ) → length ((T.meaning self.now.trellis.now).edges self.now.number) ≤ i → slice_index out.new i ≡ slice_index out.old i }
     {
         self.trellis.costs(self.number, out);
     }

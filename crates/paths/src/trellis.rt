@@ -1,6 +1,6 @@
 //! What every trellis answers.
 
-ghost use Rattle.std.specs.Prelude.{◌≡◌, ℕ, ◌≤◌, Some, slice_index};
+ghost use Rattle.std.specs.Prelude.{◌≡◌, ℕ, ◌<◌, ◌≤◌, Some, length, slice_index};
 ghost use Rattle.paths.specs.declared.edges.Edge.{Edge};
 ghost use Rattle.paths.specs.Trellises.{Meaning, count_at, edge_at, Lawful, Reaches};
 
@@ -65,8 +65,9 @@ pub trait Trellis {
         ensures { result ≡ edge_at (meaning self.now) k i };
 
     // An array as long as the largest stage asks, here and wherever costs, words or the bits of a word are laid: a pass allocates nothing.
-    /// Lays the cost of each edge of stage `k` at the edge's place; beyond the last stage nothing changes.
+    /// Lays the cost of each edge of stage `k` at the edge's place; the rest stays, and beyond the last stage all.
     fn costs(&self, k: usize, out: &mut [u32; 512])
         ensures laid { (i : ℕ) (e : Edge) → edge_at (meaning self.now) k i ≡ Some e → slice_index out.new i ≡ e.cost }
+        ensures rest { (i : ℕ) → k < (meaning self.now).stages → length ((meaning self.now).edges k) ≤ i → slice_index out.new i ≡ slice_index out.old i }
         ensures same { (meaning self.now).stages ≤ k → out.new ≡ out.old };
 }

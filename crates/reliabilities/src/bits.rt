@@ -3,7 +3,8 @@
 ghost use Rattle.std.specs.Prelude.{◌≡◌, ℕ, suc, ◌+◌, ◌*◌, ◌<◌, ◌≤◌, length, None, slice_index, slice_index_or};
 ghost use Rattle.paths.specs.Paths.{path_join, paths_with, before, after};
 ghost use Rattle.paths.specs.Least.{least};
-ghost use Rattle.marginals.specs.Words.{neither};
+ghost use Rattle.marginals.specs.Rooms.{Leaves};
+ghost use Rattle.marginals.specs.Words.{entry_of, neither};
 ghost use Rattle.modulo.specs.Modulo.{reliability};
 ghost use Rattle.reliabilities.specs.Bounds.{Bounded};
 
@@ -23,7 +24,8 @@ fn tell<W: CostKeeping>(found: &[ByBit<u32>], out: &mut [Option<i32>])
     }
 }
 
-/// The reliability of every bit of the word of a stage, into the front of `out`: between a column that keeps the least costs
+/// The reliability of every bit of the word of a stage, into the front of `out`, the rest of
+/// which stays: between a column that keeps the least costs
 /// before the stage and one that keeps those after it, the least cost over all paths with the bit 0 less that with the bit 1.
 pub fn stage_bits<T: Trellis, W: CostKeeping>(
     stage: &Stage<T>,
@@ -39,6 +41,8 @@ pub fn stage_bits<T: Trellis, W: CostKeeping>(
     ensures told { (b : ℕ) → b < T.bits stage.now.trellis.now → slice_index_or out.new b None ≡ reliability (path_join least (paths_with T.states (T.meaning stage.now.trellis.now) stage.now.number b 0)) (path_join least (paths_with T.states (T.meaning stage.now.trellis.now) stage.now.number b 1)) }
     ensures bound { 1 ≤ T.reach → T.ceiling < 131072 → (b : ℕ) → b < T.bits stage.now.trellis.now → Bounded ((2 * T.reach + 1) * T.ceiling) (slice_index_or out.new b None) }
     ensures sixteen { 1 ≤ T.reach → (2 * T.reach + 1) * T.ceiling < 32768 → (b : ℕ) → b < T.bits stage.now.trellis.now → Bounded 32767 (slice_index_or out.new b None) }
+    ensures rest { (b : ℕ) → T.bits stage.now.trellis.now ≤ b → slice_index_or out.new b None ≡ slice_index_or out.old b None }
+    ensures room { Leaves W.Weights.ops T.states (T.bits stage.now.trellis.now) ((T.meaning stage.now.trellis.now).edges stage.now.number) (entry_of W.Weights.ops front.now) (entry_of W.Weights.ops back.now) room.old room.new }
 {
     marginals::<T, W>(stage, front, back, room);
     let bits = stage.trellis.bits();

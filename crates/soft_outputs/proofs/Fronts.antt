@@ -1,14 +1,20 @@
 -- Where the columns on both sides of a stage stand in a work table.
-use Rattle.std.proofs.Common.{◌≡◌, ℕ, suc, ◌+◌, ◌-◌, ◌*◌, ◌<◌, ◌≤◌, ltb, List, length, get_or, take, drop, length-take, length-drop, refl, ap, ◌⊎◌, ⊎_elim, ◌∙◌, le_refl, suc-mul, mul-le-mul, arith}
+use Rattle.std.proofs.Common.{◌≡◌, ℕ, suc, ◌+◌, ◌-◌, ◌*◌, ◌<◌, ◌≤◌, ltb, List, length, get_or, take, drop, length-take, length-drop, refl, ap, ◌⊎◌, ⊎_elim, ◌∙◌, le_refl, suc-mul, mul-le-mul, arith, sym, subst}
 use Rattle.std.proofs.lemmas.Nat.{div-mul-add, mod-mul-add}
 use Rattle.std.proofs.lemmas.Bool.{lt-ltb, le-ltb}
+use Rattle.std.proofs.lemmas.List.{get_or_default}
+use Rattle.paths.specs.Semirings.{Operations}
+use Rattle.marginals.specs.declared.room.Room.{Room}
+use Rattle.marginals.specs.Rooms.{Leaves}
+use Rattle.marginals.specs.Words.{entry_of}
+use Rattle.marginals.proofs.Lawful.{leaves_of}
 use Rattle.marginals.proofs.Frames.{part_entry}
-use Rattle.paths.specs.Trellises.{Meaning}
+use Rattle.paths.specs.Trellises.{Meaning, Lawful}
 use Rattle.paths.specs.Paths.{path_join, before, after}
 use Rattle.paths.specs.Least.{least}
 use Rattle.ways.specs.declared.names.Way.{Way}
 use Rattle.ways.specs.declared.names.Way.TheVariants.{Columns, Metastages}
-use Rattle.ways.specs.Ways.{kept_as}
+use Rattle.ways.specs.Ways.{kept_as, ops_as}
 use Rattle.ways.specs.WorkTables.{work_entry, column_entries}
 
 -- entry s of column k, where columns have S entries and there are n + 1 of them
@@ -65,9 +71,26 @@ module _ (way : Way) (states : ℕ) (m : Meaning) (table : List ℕ) (k sc st : 
       ∙ ap (λ x. get_or table x 0) at ∙ worked (m.stages * states + states + (suc k * states + s)) (omega arith)
       ∙ back_entry way states m (suc k) s (m.stages * states + states + (suc k * states + s)) refl low h
 
+  -- what is left in the room, by the least costs that the columns keep
+  pub room_of : (o : Operations ℕ) → o ≡ ops_as way → {ceiling bits : ℕ} → Lawful states ceiling bits m → (n : ℕ) (old new : Room ℕ)
+      → Leaves o states n (m.edges k) (entry_of o (take (k * sc + sc - k * sc) (drop (k * sc) table))) (entry_of o (take (st * sc + sc + k * sc + sc + sc - (st * sc + sc + k * sc + sc)) (drop (st * sc + sc + k * sc + sc) table))) old new
+      → Leaves (ops_as way) states n (m.edges k) (λ s. kept_as way (path_join least (before states m k s))) (λ s. kept_as way (path_join least (after m (suc k) s))) old new
+  room_of o is law n old new l =
+      let c = columns_there in
+      let front = take (k * sc + sc - k * sc) (drop (k * sc) table) in
+      let back = take (st * sc + sc + k * sc + sc + sc - (st * sc + sc + k * sc + sc)) (drop (st * sc + sc + k * sc + sc) table) in
+      let F : ℕ → ℕ = λ s. kept_as way (path_join least (before states m k s)) in
+      let G : ℕ → ℕ = λ s. kept_as way (path_join least (after m (suc k) s)) in
+      subst (λ (o : Operations ℕ). Leaves o states n (m.edges k) F G old new) is
+      (leaves_of {o = o} m law k low (entry_of o front) (entry_of o back) F G
+      (λ s h. let r = c.0 in get_or_default front s o.none 0 (omega arith) ∙ front_of s h) (λ s h. let r = c.1 in get_or_default back s o.none 0 (omega arith) ∙ back_of s h) n old new l)
+
 -- where the table is kept as another way would keep it
 pub as_is : (way other : Way) → way ≡ other → (x y : ℕ) → x ≡ kept_as way y → x ≡ kept_as other y
 as_is way other e x y h = h ∙ ap (λ w. kept_as w y) e
 
 pub least_kept : (way : Way) → (way ≡ Columns) ⊎ (way ≡ Metastages) → (x y : ℕ) → x ≡ kept_as way y → x ≡ y
 least_kept way is x y h = ⊎_elim (λ e. as_is way Columns e x y h) (λ e. as_is way Metastages e x y h) is
+
+pub least_ops : (way : Way) → (way ≡ Columns) ⊎ (way ≡ Metastages) → least ≡ ops_as way
+least_ops way is = ⊎_elim (λ e. sym (ap ops_as e)) (λ e. sym (ap ops_as e)) is

@@ -1,14 +1,16 @@
 //! The reliabilities of one stage, from the work table of any way.
 
-ghost use Rattle.std.specs.Prelude.{◌≡◌, ℕ, ◌+◌, ◌*◌, ◌<◌, ◌≤◌, length, None, slice_index, slice_index_or};
-ghost use Rattle.paths.specs.Paths.{path_join, paths_with};
+ghost use Rattle.std.specs.Prelude.{◌≡◌, ℕ, suc, ◌+◌, ◌*◌, ◌<◌, ◌≤◌, length, None, slice_index, slice_index_or};
+ghost use Rattle.paths.specs.Paths.{path_join, paths_with, before, after};
 ghost use Rattle.paths.specs.Least.{least};
 ghost use Rattle.modulo.specs.Modulo.{reliability};
 ghost use Rattle.modulo.specs.Spread.{IsModest};
 ghost use Rattle.passes.specs.Tables.{columns_size};
 ghost use Rattle.ways.specs.declared.names.Way.{Way};
 ghost use Rattle.ways.specs.declared.names.Way.TheVariants.{Modular};
+ghost use Rattle.ways.specs.Ways.{ops_as, kept_as};
 ghost use Rattle.ways.specs.WorkTables.{work_entry};
+ghost use Rattle.marginals.specs.Rooms.{Leaves};
 
 use marginals::Room;
 use modulo::ModuloCost;
@@ -30,17 +32,17 @@ pub fn stage_reliabilities<T: Trellis>(
     requires cheap { T.ceiling < 131072 }
     requires served { way ≡ Modular → IsModest T.reach T.ceiling }
     ensures told { (b : ℕ) → b < T.bits stage.now.trellis.now → slice_index_or out.new b None ≡ reliability (path_join least (paths_with T.states (T.meaning stage.now.trellis.now) stage.now.number b 0)) (path_join least (paths_with T.states (T.meaning stage.now.trellis.now) stage.now.number b 1)) }
+    ensures rest { (b : ℕ) → T.bits stage.now.trellis.now ≤ b → slice_index_or out.new b None ≡ slice_index_or out.old b None }
+    ensures room { Leaves (ops_as way) T.states (T.bits stage.now.trellis.now) ((T.meaning stage.now.trellis.now).edges stage.now.number) (λ s. kept_as way (path_join least (before T.states (T.meaning stage.now.trellis.now) stage.now.number s))) (λ s. kept_as way (path_join least (after (T.meaning stage.now.trellis.now) (suc stage.now.number) s))) room.old room.new }
 {
     let states = T::state_count();
-    let front = stage.number * states;
-    let back = stage.trellis.stages() * states + states + front + states;
-    let before = &table[front..front + states];
-    let after = &table[back..back + states];
+    let at = stage.number * states;
+    let behind = stage.trellis.stages() * states + states + at + states;
+    let front = &table[at..at + states];
+    let back = &table[behind..behind + states];
     // A way comes as a value, and becomes a type parameter at this one match; a closure or a `dyn` for each way would be chosen by the same match.
     match way {
-        Way::Columns | Way::Metastages => stage_bits::<T, LeastCost>(
-            stage, before, after, room, out,
-        ),
-        Way::Modular => stage_bits::<T, ModuloCost>(stage, before, after, room, out),
+        Way::Columns | Way::Metastages => stage_bits::<T, LeastCost>(stage, front, back, room, out),
+        Way::Modular => stage_bits::<T, ModuloCost>(stage, front, back, room, out),
     }
 }

@@ -9,3 +9,4 @@ pub mod Taken
 pub mod InnerFree
 pub mod OuterFree
 pub mod OuterTail
+pub mod Rests

@@ -10,6 +10,7 @@ pub(crate) fn add_row(row: &[u8], slots: &[u8], out: &mut [u32; 512])
     requires low { (w : ℕ) → w < length slots.now → slice_index out.old w ≤ 4088 }
     ensures zero { (w : ℕ) → w < length slots.now → slice_index out.new w ≡ min (slice_index row.now (slice_index slots.now w)) 255 + slice_index out.old w }
     ensures one { (w : ℕ) → w < length slots.now → slice_index out.new (length slots.now + w) ≡ min (slice_index row.now (length slots.now - 1 - slice_index slots.now w)) 255 + slice_index out.old w }
+    ensures rest { (w : ℕ) → length slots.now + length slots.now ≤ w → slice_index out.new w ≡ slice_index out.old w }
 {
     let size = slots.len();
     let (zero, one) = out.split_at_mut(size);

@@ -27,6 +27,7 @@ fn double(out: &mut [u32; 512], size: usize, zero: u32, one: u32)
     requires low { (w : ℕ) → w < size → slice_index out.old w ≤ 4088 }
     ensures low { (w : ℕ) → w < size → slice_index out.new w ≡ slice_index out.old w }
     ensures high { (w : ℕ) → w < size → slice_index out.new (size + w) + zero ≡ slice_index out.old w + one }
+    ensures rest { (w : ℕ) → size + size ≤ w → slice_index out.new w ≡ slice_index out.old w }
 {
     let (low, high) = out.split_at_mut(size);
     // By `zip` an invariant could not name what is written, as in `lay_row` of marginals.
@@ -39,7 +40,8 @@ fn double(out: &mut [u32; 512], size: usize, zero: u32, one: u32)
 #[tactic(auto, using(crate::specs::Bounds::penalties_low))]
 pub(crate) fn word_penalties(priors: &[i16], out: &mut [u32; 512])
     requires { length priors.now ≤ 8 }
-    ensures { (w : ℕ) → w < 2 ^ length priors.now → slice_index out.new w ≡ penalties priors.now 0 w (length priors.now) }
+    ensures laid { (w : ℕ) → w < 2 ^ length priors.now → slice_index out.new w ≡ penalties priors.now 0 w (length priors.now) }
+    ensures rest { (w : ℕ) → 2 ^ length priors.now ≤ w → slice_index out.new w ≡ slice_index out.old w }
 {
     out[0] = word_penalty(priors, 0);
     for (j, &prior) in priors.iter().enumerate() {

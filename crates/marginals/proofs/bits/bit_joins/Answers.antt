@@ -12,5 +12,6 @@ returns g c =
     (entry_of o c.args.before.now) (entry_of o c.args.after.now) c.requires.forth c.requires.back in
     record {
       zero = λ b h. made b 0 (get_or c.marginals.new.room.bits b (neither o)).zero (c.marginals.ensures.zero b h);
+      room = c.marginals.ensures.room;
       one = λ b h. made b 1 (get_or c.marginals.new.room.bits b (neither o)).one (c.marginals.ensures.one b h);
     }

@@ -3,4 +3,4 @@ use Rattle.marginals.proofs.Folds.{Folded}
 use Rattle.marginals.proofs.halves.fold.Given as goal
 
 abbrev pub invariant-loop-b : goal.invariant-loop-b
-invariant-loop-b g l = Folded g.W.Weights.ops l.bits l.b l.initial.words l.words l.found
+invariant-loop-b g l = Folded g.W.Weights.ops l.bits l.b l.initial.words l.words l.initial.found l.found

@@ -1,6 +1,6 @@
 -- The joins between the two columns tell each bit.
-use Rattle.std.proofs.Common.{◌≡◌, ℕ, ◌+◌, ◌*◌, ◌<◌, ◌≤◌, ◌++◌, length, take, drop, None, sym, ap, ◌∙◌, subst, length-take, mul-le-mul_right, arith}
-use Rattle.std.proofs.lemmas.List.{get_or_default, get_or-take, get_or_append_left}
+use Rattle.std.proofs.Common.{◌≡◌, ℕ, ◌+◌, ◌-◌, ◌*◌, ◌<◌, ◌≤◌, ◌++◌, length, get_or, take, drop, None, sym, ap, ◌∙◌, subst, length-take, mul-le-mul_right, arith}
+use Rattle.std.proofs.lemmas.List.{get_or_default, get_or-take, get_or-drop, get_or_append_left, get_or-append_right}
 use Rattle.marginals.specs.declared.room.ByBit.{ByBit}
 use Rattle.marginals.specs.Words.{entry_of, neither}
 use Rattle.reliabilities.specs.ModuloTells.{connected}
@@ -51,4 +51,10 @@ returns g c =
       sixteen = λ some modest b low.
           let three : 3 * g.T.Trellis.ceiling ≤ (2 * g.T.Trellis.reach + 1) * g.T.Trellis.ceiling = mul-le-mul_right g.T.Trellis.ceiling (omega arith) in
           wider _ 32767 (omega arith) _ (told_bounded m (connected m law (g.T.Trellis.reaches t) some (omega arith)) s.number b s.inside _ (told b low));
+      room = c.marginals.ensures.room;
+      rest = λ b past.
+          let past_n : n ≤ b = omega arith in
+          let front : length c.tell.new.out ≡ n = omega arith in
+          let at : n + (b - n) ≡ b = omega arith in
+          get_or-append_right c.tell.new.out (drop n c.args.out.now) n b None front past_n ∙ get_or-drop n c.args.out.now (b - n) None ∙ ap (λ i. get_or c.args.out.now i None) at;
     }

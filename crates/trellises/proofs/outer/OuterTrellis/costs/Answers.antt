@@ -1,7 +1,7 @@
 -- Each edge costs what its two coded bits do.
-use Rattle.std.proofs.Common.{◌≡◌, ℕ, ◌+◌, ◌*◌, ◌/◌, ◌%◌, ◌<◌, ◌≢◌, List, length, get_or, ℤ, pos, ap, ◌∙◌, arith, rules, get_or-set_other, get_or-set_same, w16, SFits, to_z, of_z, below_more}
+use Rattle.std.proofs.Common.{◌≡◌, ℕ, ◌+◌, ◌-◌, ◌*◌, ◌/◌, ◌%◌, ◌<◌, ◌≢◌, List, length, get_or, drop, ℤ, pos, ap, ◌∙◌, arith, rules, get_or-set_other, get_or-set_same, w16, SFits, to_z, of_z, below_more}
 use Rattle.std.proofs.lemmas.Int.{to_z-of_z}
-use Rattle.std.proofs.lemmas.List.{get_or_append_left}
+use Rattle.std.proofs.lemmas.List.{get_or_append_left, get_or-append_right, get_or-drop}
 use Rattle.trellises.specs.Priors.{penalty}
 use Rattle.trellises.specs.Outer.{first_coded, second_coded, outer_cost}
 use Rattle.trellises.proofs.OuterEdges.{outer_laid}
@@ -31,3 +31,9 @@ pub returns-after-loop-i-clause-laid : goal.returns-after-loop-i-clause-laid
 returns-after-loop-i-clause-laid c =
     let t = c.args.self.now in
     outer_laid t.n t.priors.now c.args.k _ (omega arith) (λ v h. let lt : v < length c.loop-i.cost-items = omega arith in get_or_append_left c.loop-i.cost-items _ 0 v lt ∙ c.loop-i.invariant v (omega arith))
+
+pub returns-after-loop-i-clause-rest : goal.returns-after-loop-i-clause-rest
+returns-after-loop-i-clause-rest c i here past =
+    let l : length c.loop-i.cost-items ≡ 8 = omega arith in
+    let at : 8 + (i - 8) ≡ i = omega arith in
+    get_or-append_right c.loop-i.cost-items (drop 8 c.args.out.now) 8 i 0 l past ∙ get_or-drop 8 c.args.out.now (i - 8) 0 ∙ ap (λ j. get_or c.args.out.now j 0) at
