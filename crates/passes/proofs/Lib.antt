@@ -2,6 +2,7 @@ pub mod Rows
 pub mod Turns
 pub mod Dots
 pub mod Rooms
+pub mod Halves
 pub mod Keeps
 pub mod Steps
 pub mod Fills
