@@ -1,4 +1,4 @@
-use Rattle.std.proofs.Common.{take, ◌≡◌, ℕ, ◌+◌, ◌-◌, ◌*◌, ◌<◌, true, false, not, ◌&&◌, ltb, length, get_or, drop, Some, sym, refl, ap, ◌∙◌, subst, zero-mul, arith}
+use Rattle.std.proofs.Common.{take, ◌≡◌, ℕ, ◌+◌, ◌-◌, ◌*◌, ◌<◌, true, false, not, ◌&&◌, ltb, length, get_or, drop, Some, inr, sym, refl, ap, ◌∙◌, subst, zero-mul, arith}
 use Rattle.std.proofs.lemmas.List.{get_or-take, length-take-le}
 use Rattle.std.proofs.lemmas.Bool.{ne_eqb, lt-ltb, le-ltb, cond-true, cond-false}
 use Rattle.paths.specs.Trellises.{Lawful}
@@ -30,6 +30,9 @@ loop-j-init g c =
       stages_stand g.met.W.Semiring.laws v m n (omega arith) e tb stand single_each,
       omega arith,
       refl,
+      λ p h.
+          let room : n * (v * v) + v * v ≡ m.stages * (g.T.Trellis.states * g.T.Trellis.states) + g.T.Trellis.states * g.T.Trellis.states = ap (λ n. n * (v * v) + v * v) is_n ∙ ap (λ v. m.stages * (v * v) + v * v) c.state_count-states.ensures in
+          c.lay_stages.ensures.kept p (inr (omega arith)),
     )
 
 pub replace-requires : goal.replace-requires
@@ -101,10 +104,11 @@ loop-j-preserved g c =
       subst (λ d. Standing o v m n d c.replace.new.table) is stands,
       subst (λ d. opens d (n - 1) + (i + 1) ≡ n - 1) is (omega arith),
       c.loop-j.invariant.3 ∙ follows_on n e order i (omega arith) here ∙ ap (λ d. follows n d (drop (i + 1) order)) is,
+      λ p h. c.replace.ensures.rest p h ∙ c.loop-j.invariant.4 p h,
     )
 
-pub returns-then-not-is_open : goal.returns-then-not-is_open
-returns-then-not-is_open g c =
+pub returns-then-not-is_open-clause-answer : goal.returns-then-not-is_open-clause-answer
+returns-then-not-is_open-clause-answer g c =
     let n = c.stages-stages.result in
     let single_each : (k : ℕ) → k < n → span_at c.single_blocks.new.spans k ≡ record { end = k + 1; begin = k } = λ k h. c.single_blocks.ensures k (omega (arith, length-take-le n c.args.spans.now)) in
     let size : length c.loop-j.spans ≡ n = omega (arith, length-take-le n c.args.spans.now) in
@@ -120,8 +124,8 @@ returns-then-not-is_open g c =
     (ap (λ n. complete_order n order) (sym c.stages-stages.ensures) ∙ complete_is n begun order sound all (omega arith)
     ∙ c.loop-j.invariant.3 ∙ follows_stops n c.loop-j.spans order i (omega arith) here))
 
-pub returns : goal.returns
-returns g c =
+pub returns-clause-answer : goal.returns-clause-answer
+returns-clause-answer g c =
     let o = g.W.Weights.ops in
     let m = g.T.Trellis.meaning c.args.t.now in
     let w = g.T.Trellis.states in

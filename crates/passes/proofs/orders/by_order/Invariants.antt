@@ -1,4 +1,4 @@
-use Rattle.std.proofs.Common.{◌≡◌, ◌+◌, ◌-◌, drop}
+use Rattle.std.proofs.Common.{◌≡◌, ℕ, ◌+◌, ◌-◌, ◌*◌, ◌≤◌, get_or, drop}
 use Rattle.passes.proofs.Blocks.{Blocks}
 use Rattle.passes.proofs.Counts.{opens}
 use Rattle.passes.proofs.Follows.{follows}
@@ -12,3 +12,4 @@ invariant-loop-j g l =
     × Standing g.W.Weights.ops l.states m l.stages l.spans l.table
     × (opens l.spans (l.stages - 1) + l.j-index ≡ l.stages - 1)
     × (follows l.stages l.initial.spans l.order ≡ follows l.stages l.spans (drop l.j-index l.order))
+    × ((p : ℕ) → l.stages * (l.states * l.states) + l.states * l.states ≤ p → get_or l.table p g.W.Weights.ops.none ≡ get_or l.fn.table p g.W.Weights.ops.none)
