@@ -11,3 +11,4 @@ pub mod Blocks
 pub mod Counts
 pub mod Follows
 pub mod Stands
+pub mod Ends

@@ -1,15 +1,16 @@
-use Rattle.std.proofs.Common.{take, ◌≡◌, ℕ, ◌+◌, ◌-◌, ◌*◌, ◌<◌, true, false, not, ◌&&◌, ltb, length, get_or, drop, Some, inr, sym, refl, ap, ◌∙◌, subst, zero-mul, arith}
+use Rattle.std.proofs.Common.{cond, eqb, take, ◌≡◌, ℕ, ◌+◌, ◌-◌, ◌*◌, ◌<◌, true, false, not, ◌&&◌, ltb, length, get_or, drop, Some, inr, sym, refl, ap, ◌∙◌, subst, zero-mul, arith}
 use Rattle.std.proofs.lemmas.List.{get_or-take, length-take-le}
 use Rattle.std.proofs.lemmas.Bool.{ne_eqb, lt-ltb, le-ltb, cond-true, cond-false}
 use Rattle.paths.specs.Trellises.{Lawful}
 use Rattle.paths.specs.Paths.{across, path_join}
 use Rattle.passes.specs.Tables.{stage_at, Stages}
-use Rattle.passes.specs.Orders.{span_at, complete_order, ends_at, is_open, made_one}
+use Rattle.passes.specs.Orders.{span_at, complete_order, ends_at, begins_before, is_open, made_one, followed, ends_made}
 use Rattle.passes.proofs.Rooms.{entry_room}
 use Rattle.passes.proofs.Blocks.{Blocks, single, first_low, last_low, at_boundary, one_sound}
 use Rattle.passes.proofs.Counts.{opens, opens_all, opens_less, one_left}
 use Rattle.passes.proofs.Follows.{follows, open_parts, open_after, complete_is, follows_on, follows_stops, follows_ends}
-use Rattle.passes.proofs.Stands.{Standing, stages_stand, one_stands, places}
+use Rattle.passes.proofs.Stands.{Standing, stages_stand, stages_made, one_stands, one_made, places}
+use Rattle.passes.proofs.Ends.{single_is, spans_on, spans_stop, spans_end, ends_on, ends_stop, ends_end, spans_left, ends_left}
 use Rattle.passes.proofs.Sums.{last_metastage}
 use Rattle.passes.proofs.orders.by_order.Goals as goal
 
@@ -33,6 +34,8 @@ loop-j-init g c =
       λ p h.
           let room : n * (v * v) + v * v ≡ m.stages * (g.T.Trellis.states * g.T.Trellis.states) + g.T.Trellis.states * g.T.Trellis.states = ap (λ n. n * (v * v) + v * v) is_n ∙ ap (λ v. m.stages * (v * v) + v * v) c.state_count-states.ensures in
           c.lay_stages.ensures.kept p (inr (omega arith)),
+      refl,
+      (λ b. b + 1, (λ a. refl, stages_made g.met.W.Semiring.laws v m n (omega arith) tb stand)),
     )
 
 pub replace-requires : goal.replace-requires
@@ -99,12 +102,22 @@ loop-j-preserved g c =
     let shut = at_boundary n e sound j p.0 p.1 p.2 in
     let less = (opens_less e d j (n - 1) p.0 (lt-ltb 0 (ends_at e j) p.2) (le-ltb 0 (ends_at d j) (omega arith))
     (λ k a b u. open_after n e sound j p.0 p.1 p.2 k (omega arith) ∙ ap (λ b. not b && ltb 0 (ends_at e k)) (ne_eqb j k (λ q. u (sym q))))).1 (let x = p.1 in omega arith) in
+    let made = c.loop-j.invariant.6 in
+    let next : ℕ → ℕ = λ b. cond (eqb b (begins_before e j)) (ends_at e j) (made.0 b) in
     let was = c.loop-j.invariant.2 in (
       subst (Blocks n) is (one_sound n e sound j p.0 p.1 p.2),
       subst (λ d. Standing o v m n d c.replace.new.table) is stands,
       subst (λ d. opens d (n - 1) + (i + 1) ≡ n - 1) is (omega arith),
       c.loop-j.invariant.3 ∙ follows_on n e order i (omega arith) here ∙ ap (λ d. follows n d (drop (i + 1) order)) is,
       λ p h. c.replace.ensures.rest p h ∙ c.loop-j.invariant.4 p h,
+      c.loop-j.invariant.5 ∙ spans_on n e order i (omega arith) here ∙ ap (λ d. followed n d (drop (i + 1) order)) is,
+      (
+        next,
+        (
+          λ a. made.1.0 a ∙ ends_on n e order i made.0 a (omega arith) here ∙ ap (λ d. ends_made n d next (drop (i + 1) order) a) is,
+          one_made laws v m n (omega arith) law e sound j p.0 p.1 p.2 c.loop-j.table c.replace.new.table c.loop-j.invariant.1 c.replace.ensures.kept c.replace.ensures.made made.0 made.1.1,
+        ),
+      ),
     )
 
 pub returns-then-not-is_open-clause-answer : goal.returns-then-not-is_open-clause-answer
@@ -156,3 +169,65 @@ returns-clause-answer g c =
     let at : x * w + y ≡ stage_at 0 w 0 x y = omega arith in
     get_or-take (v * v) tb (x * w + y) o.none (omega arith) ∙ ap (λ p. get_or tb p o.none) at ∙ stands 0 (omega arith) (omega arith) x y small little ∙ ap (λ b. path_join o (across m 0 b x y)) whole))
     ∙ sym (cond-true (complete_order m.stages order) _ _ complete)
+
+pub returns-then-not-is_open-clause-spans_front : goal.returns-then-not-is_open-clause-spans_front
+returns-then-not-is_open-clause-spans_front g c whole =
+    let n = c.stages-stages.result in
+    let m = g.T.Trellis.meaning c.args.t.now in
+    let long : length c.single_blocks.new.spans ≡ n = omega (arith, length-take-le n c.args.spans.now) in
+    let single_each : (k : ℕ) → k < n → span_at c.single_blocks.new.spans k ≡ record { end = k + 1; begin = k } = λ k h. c.single_blocks.ensures k (omega (arith, length-take-le n c.args.spans.now)) in
+    let start = single_is n c.single_blocks.new.spans long single_each in
+    let size : length c.loop-j.spans ≡ n = omega (arith, length-take-le n c.args.spans.now) in
+    let e = c.loop-j.spans in
+    let order = c.args.order.now in
+    let i = c.loop-j.j-index in
+    let here : is_open n e (get_or order i 0) ≡ false = rw size at (sym c.if-not-is_open.ensures) in
+    spans_left m.stages n c.stages-stages.ensures c.single_blocks.new.spans e order i start c.loop-j.invariant.5 (spans_stop n e order i (omega arith) here) size (drop n c.args.spans.now)
+
+pub returns-then-not-is_open-clause-table_front : goal.returns-then-not-is_open-clause-table_front
+returns-then-not-is_open-clause-table_front g c whole k x y h small little =
+    let n = c.stages-stages.result in
+    let m = g.T.Trellis.meaning c.args.t.now in
+    let long : length c.single_blocks.new.spans ≡ n = omega (arith, length-take-le n c.args.spans.now) in
+    let single_each : (k : ℕ) → k < n → span_at c.single_blocks.new.spans k ≡ record { end = k + 1; begin = k } = λ k h. c.single_blocks.ensures k (omega (arith, length-take-le n c.args.spans.now)) in
+    let start = single_is n c.single_blocks.new.spans long single_each in
+    let size : length c.loop-j.spans ≡ n = omega (arith, length-take-le n c.args.spans.now) in
+    let e = c.loop-j.spans in
+    let order = c.args.order.now in
+    let i = c.loop-j.j-index in
+    let here : is_open n e (get_or order i 0) ≡ false = rw size at (sym c.if-not-is_open.ensures) in
+    let o = g.W.Weights.ops in
+    let v = c.state_count-states.result in
+    let made = c.loop-j.invariant.6 in
+    ap (λ w. get_or c.loop-j.table (stage_at 0 w k x y) o.none) (sym c.state_count-states.ensures) ∙ made.1.1 k x y (omega arith) (omega arith) (omega arith)
+    ∙ ap (λ b. path_join o (across m k b x y)) (ends_left m.stages n c.stages-stages.ensures c.single_blocks.new.spans e order i start made.0 k (made.1.0 k) (ends_stop n e order i made.0 k (omega arith) here))
+
+pub returns-clause-spans_front : goal.returns-clause-spans_front
+returns-clause-spans_front g c whole =
+    let n = c.stages-stages.result in
+    let m = g.T.Trellis.meaning c.args.t.now in
+    let long : length c.single_blocks.new.spans ≡ n = omega (arith, length-take-le n c.args.spans.now) in
+    let single_each : (k : ℕ) → k < n → span_at c.single_blocks.new.spans k ≡ record { end = k + 1; begin = k } = λ k h. c.single_blocks.ensures k (omega (arith, length-take-le n c.args.spans.now)) in
+    let start = single_is n c.single_blocks.new.spans long single_each in
+    let size : length c.loop-j.spans ≡ n = omega (arith, length-take-le n c.args.spans.now) in
+    let e = c.loop-j.spans in
+    let order = c.args.order.now in
+    let i = c.loop-j.j-index in
+    spans_left m.stages n c.stages-stages.ensures c.single_blocks.new.spans e order i start c.loop-j.invariant.5 (spans_end n e order i (omega arith)) size (drop n c.args.spans.now)
+
+pub returns-clause-table_front : goal.returns-clause-table_front
+returns-clause-table_front g c whole k x y h small little =
+    let n = c.stages-stages.result in
+    let m = g.T.Trellis.meaning c.args.t.now in
+    let long : length c.single_blocks.new.spans ≡ n = omega (arith, length-take-le n c.args.spans.now) in
+    let single_each : (k : ℕ) → k < n → span_at c.single_blocks.new.spans k ≡ record { end = k + 1; begin = k } = λ k h. c.single_blocks.ensures k (omega (arith, length-take-le n c.args.spans.now)) in
+    let start = single_is n c.single_blocks.new.spans long single_each in
+    let size : length c.loop-j.spans ≡ n = omega (arith, length-take-le n c.args.spans.now) in
+    let e = c.loop-j.spans in
+    let order = c.args.order.now in
+    let i = c.loop-j.j-index in
+    let o = g.W.Weights.ops in
+    let v = c.state_count-states.result in
+    let made = c.loop-j.invariant.6 in
+    ap (λ w. get_or c.loop-j.table (stage_at 0 w k x y) o.none) (sym c.state_count-states.ensures) ∙ made.1.1 k x y (omega arith) (omega arith) (omega arith)
+    ∙ ap (λ b. path_join o (across m k b x y)) (ends_left m.stages n c.stages-stages.ensures c.single_blocks.new.spans e order i start made.0 k (made.1.0 k) (ends_end n e order i made.0 k (omega arith)))

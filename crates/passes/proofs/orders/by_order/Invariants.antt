@@ -2,7 +2,8 @@ use Rattle.std.proofs.Common.{◌≡◌, ℕ, ◌+◌, ◌-◌, ◌*◌, ◌≤�
 use Rattle.passes.proofs.Blocks.{Blocks}
 use Rattle.passes.proofs.Counts.{opens}
 use Rattle.passes.proofs.Follows.{follows}
-use Rattle.passes.proofs.Stands.{Standing}
+use Rattle.passes.specs.Orders.{followed, ends_made}
+use Rattle.passes.proofs.Stands.{Standing, Made}
 use Rattle.passes.proofs.orders.by_order.Given as goal
 
 abbrev pub invariant-loop-j : goal.invariant-loop-j
@@ -13,3 +14,5 @@ invariant-loop-j g l =
     × (opens l.spans (l.stages - 1) + l.j-index ≡ l.stages - 1)
     × (follows l.stages l.initial.spans l.order ≡ follows l.stages l.spans (drop l.j-index l.order))
     × ((p : ℕ) → l.stages * (l.states * l.states) + l.states * l.states ≤ p → get_or l.table p g.W.Weights.ops.none ≡ get_or l.fn.table p g.W.Weights.ops.none)
+    × (followed l.stages l.initial.spans l.order ≡ followed l.stages l.spans (drop l.j-index l.order))
+    × ((r : ℕ → ℕ) × (((a : ℕ) → ends_made l.stages l.initial.spans (λ b. b + 1) l.order a ≡ ends_made l.stages l.spans r (drop l.j-index l.order) a) × Made g.W.Weights.ops l.states m l.stages r l.table))
