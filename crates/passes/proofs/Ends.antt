@@ -1,9 +1,9 @@
 -- What an order leaves in the spans, and which block was made last in each place.
-use Rattle.std.proofs.Common.{◌≡◌, ℕ, zero, suc, ◌+◌, ◌-◌, ◌<◌, ◌≤◌, true, false, cond, eqb, List, [], ◌∷◌, ◌++◌, length, get_or, drop, sym, refl, ap, ◌∙◌, ⊎_elim, add-one, arith, drop_of_length-le, drop-cons, length-append}
+use Rattle.std.proofs.Common.{Option, Some, None, ◌≡◌, ℕ, zero, suc, ◌+◌, ◌-◌, ◌<◌, ◌≤◌, true, false, cond, eqb, List, [], ◌∷◌, ◌++◌, length, get_or, drop, sym, refl, ap, ◌∙◌, ⊎_elim, add-one, arith, drop_of_length-le, drop-cons, length-append}
 use Rattle.std.proofs.lemmas.Bool.{cases_eq}
 use Rattle.std.proofs.lemmas.List.{ext_get_or, get_or_append_left, get_or-append_right}
 use Rattle.passes.specs.declared.orders.Span.{Span}
-use Rattle.passes.specs.Orders.{span_at, ends_at, begins_before, is_open, made_one, single_spans, followed, ends_made, spans_after, ends_after}
+use Rattle.passes.specs.Orders.{span_at, ends_at, begins_before, is_open, made_one, single_spans, followed, ends_made, made_last, spans_after, ends_after, last_after}
 
 single_long : (n : ℕ) → length (single_spans n) ≡ n
 unfolding single_spans
@@ -43,6 +43,26 @@ module _ (n : ℕ) (e : List Span) (order : List ℕ) (i : ℕ) where
   unfolding followed
   spans_end h = ap (followed n e) (drop_of_length-le order h)
 
+  pub last_on : (x : Option ℕ) → i < length order → is_open n e (get_or order i 0) ≡ true
+      → made_last n e x (drop i order) ≡ made_last n (made_one e (get_or order i 0)) (Some (begins_before e (get_or order i 0))) (drop (i + 1) order)
+  unfolding made_last
+  last_on x h open-here =
+      let j = get_or order i 0 in
+      let next : Option ℕ = Some (begins_before e j) in
+      ap (made_last n e x) (drop-cons order i 0 h) ∙ ap (λ b. cond b (made_last n (made_one e j) next (drop (suc i) order)) x) open-here
+      ∙ ap (λ k. made_last n (made_one e j) next (drop k order)) (sym (add-one i))
+
+  pub last_stop : (x : Option ℕ) → i < length order → is_open n e (get_or order i 0) ≡ false → made_last n e x (drop i order) ≡ x
+  unfolding made_last
+  last_stop x h shut =
+      let j = get_or order i 0 in
+      let next : Option ℕ = Some (begins_before e j) in
+      ap (made_last n e x) (drop-cons order i 0 h) ∙ ap (λ b. cond b (made_last n (made_one e j) next (drop (suc i) order)) x) shut
+
+  pub last_end : (x : Option ℕ) → length order ≤ i → made_last n e x (drop i order) ≡ x
+  unfolding made_last
+  last_end x h = ap (made_last n e x) (drop_of_length-le order h)
+
   module _ (r : ℕ → ℕ) (a : ℕ) where
     pub ends_on : i < length order → is_open n e (get_or order i 0) ≡ true
         → ends_made n e r (drop i order) a ≡ ends_made n (made_one e (get_or order i 0)) (λ b. cond (eqb b (begins_before e (get_or order i 0))) (ends_at e (get_or order i 0)) (r b)) (drop (i + 1) order) a
@@ -74,3 +94,6 @@ module _ (many n : ℕ) (is : n ≡ many) (begun e : List Span) (order : List �
 
   pub ends_left : (r : ℕ → ℕ) (a : ℕ) → ends_made n begun (λ b. b + 1) order a ≡ ends_made n e r (drop i order) a → ends_made n e r (drop i order) a ≡ r a → r a ≡ ends_after many order a
   ends_left r a was stop = sym (was ∙ stop) ∙ ap (λ b. ends_made n b (λ b. b + 1) order a) start ∙ ap (λ n. ends_after n order a) is
+
+  pub last_left : (x : Option ℕ) → made_last n begun None order ≡ made_last n e x (drop i order) → made_last n e x (drop i order) ≡ x → x ≡ last_after many order
+  last_left x was stop = sym (was ∙ stop) ∙ ap (λ b. made_last n b None order) start ∙ ap (λ n. last_after n order) is

@@ -1,5 +1,5 @@
 -- The orders in which neighbouring stages are made one: boundary j lies between stage j - 1 and stage j.
-use Rattle.std.specs.Prelude.{ℕ, zero, suc, ◌+◌, ◌-◌, Bool, true, false, not, ◌&&◌, ◌||◌, List, [], ◌∷◌, ◌++◌, length, cond, nat_eq, ◌==◌, nat_lt, slice_index_or, slice_set}
+use Rattle.std.specs.Prelude.{Option, Some, None, ℕ, zero, suc, ◌+◌, ◌-◌, Bool, true, false, not, ◌&&◌, ◌||◌, List, [], ◌∷◌, ◌++◌, length, cond, nat_eq, ◌==◌, nat_lt, slice_index_or, slice_set}
 use Rattle.passes.specs.declared.orders.Span.{Span}
 
 -- every entry is a boundary of n stages
@@ -59,9 +59,17 @@ unfoldable pub ends_made : ℕ → List Span → (ℕ → ℕ) → List ℕ → 
 ends_made n e r [] a = r a
 ends_made n e r (j ∷ js) a = cond (is_open n e j) (ends_made n (made_one e j) (λ b. cond (nat_eq b (begins_before e j)) (ends_at e j) (r b)) js a) (r a)
 
--- both after an order of n stages
+-- the stage in whose place a block was made last, or x where none was
+unfoldable pub made_last : ℕ → List Span → Option ℕ → List ℕ → Option ℕ
+made_last n e x [] = x
+made_last n e x (j ∷ js) = cond (is_open n e j) (made_last n (made_one e j) (Some (begins_before e j)) js) x
+
+-- these after an order of n stages
 abbrev pub spans_after : ℕ → List ℕ → List Span
 spans_after n order = followed n (single_spans n) order
 
 abbrev pub ends_after : ℕ → List ℕ → ℕ → ℕ
 ends_after n order a = ends_made n (single_spans n) (λ b. b + 1) order a
+
+abbrev pub last_after : ℕ → List ℕ → Option ℕ
+last_after n order = made_last n (single_spans n) None order

@@ -2,8 +2,8 @@
 
 ghost use Rattle.std.specs.Prelude.{◌≡◌, ℕ, ◌+◌, ◌-◌, ◌*◌, ◌<◌, ◌≤◌, ◌≢◌, length, if◌then◌else◌, Some, None, slice_index_or};
 ghost use Rattle.paths.specs.Paths.{paths, across, path_join};
-ghost use Rattle.passes.specs.Tables.{Outside, stage_at, dotted};
-ghost use Rattle.passes.specs.Orders.{complete_order, span_at, ends_at, begins_before, is_open, made_one, spans_after, ends_after};
+ghost use Rattle.passes.specs.Tables.{Outside, stage_at, Spare, dotted};
+ghost use Rattle.passes.specs.Orders.{complete_order, span_at, ends_at, begins_before, is_open, made_one, spans_after, ends_after, last_after};
 
 use super::metastages::{copy, product};
 use super::stages::lay_stages;
@@ -84,6 +84,7 @@ pub fn by_order<T: Trellis, W: Semiring>(
     ensures short { length order.now ≢ (T.meaning t.now).stages - 1 → (table.new ≡ table.old) × (spans.new ≡ spans.old) }
     ensures spans_front { length order.now ≡ (T.meaning t.now).stages - 1 → (k : ℕ) → k < (T.meaning t.now).stages → span_at spans.new k ≡ span_at (spans_after (T.meaning t.now).stages order.now) k }
     ensures table_front { length order.now ≡ (T.meaning t.now).stages - 1 → (k x y : ℕ) → k < (T.meaning t.now).stages → x < T.states → y < T.states → slice_index_or table.new (stage_at 0 T.states k x y) W.Weights.ops.none ≡ path_join W.Weights.ops (across (T.meaning t.now) k (ends_after (T.meaning t.now).stages order.now k) x y) }
+    ensures table_spare { length order.now ≡ (T.meaning t.now).stages - 1 → Spare W.Weights.ops T.states (T.meaning t.now).stages (last_after (T.meaning t.now).stages order.now) table.old table.new }
     ensures table_rest { (p : ℕ) → (T.meaning t.now).stages * (T.states * T.states) + T.states * T.states ≤ p → slice_index_or table.new p W.Weights.ops.none ≡ slice_index_or table.old p W.Weights.ops.none }
     ensures spans_rest { (k : ℕ) → (T.meaning t.now).stages ≤ k → span_at spans.new k ≡ span_at spans.old k }
 {

@@ -1,16 +1,16 @@
-use Rattle.std.proofs.Common.{cond, eqb, take, ◌≡◌, ℕ, ◌+◌, ◌-◌, ◌*◌, ◌<◌, true, false, not, ◌&&◌, ltb, length, get_or, drop, Some, inr, sym, refl, ap, ◌∙◌, subst, zero-mul, arith}
+use Rattle.std.proofs.Common.{Option, None, cond, eqb, take, ◌≡◌, ℕ, ◌+◌, ◌-◌, ◌*◌, ◌<◌, true, false, not, ◌&&◌, ltb, length, get_or, drop, Some, inr, sym, refl, ap, ◌∙◌, subst, zero-mul, arith}
 use Rattle.std.proofs.lemmas.List.{get_or-take, length-take-le}
 use Rattle.std.proofs.lemmas.Bool.{ne_eqb, lt-ltb, le-ltb, cond-true, cond-false}
 use Rattle.paths.specs.Trellises.{Lawful}
 use Rattle.paths.specs.Paths.{across, path_join}
-use Rattle.passes.specs.Tables.{stage_at, Stages}
-use Rattle.passes.specs.Orders.{span_at, complete_order, ends_at, begins_before, is_open, made_one, followed, ends_made}
+use Rattle.passes.specs.Tables.{stage_at, Spare, Stages}
+use Rattle.passes.specs.Orders.{span_at, complete_order, ends_at, begins_before, is_open, made_one, followed, ends_made, made_last}
 use Rattle.passes.proofs.Rooms.{entry_room}
 use Rattle.passes.proofs.Blocks.{Blocks, single, first_low, last_low, at_boundary, one_sound}
 use Rattle.passes.proofs.Counts.{opens, opens_all, opens_less, one_left}
 use Rattle.passes.proofs.Follows.{follows, open_parts, open_after, complete_is, follows_on, follows_stops, follows_ends}
 use Rattle.passes.proofs.Stands.{Standing, stages_stand, stages_made, one_stands, one_made, places}
-use Rattle.passes.proofs.Ends.{single_is, spans_on, spans_stop, spans_end, ends_on, ends_stop, ends_end, spans_left, ends_left}
+use Rattle.passes.proofs.Ends.{single_is, spans_on, spans_stop, spans_end, ends_on, ends_stop, ends_end, spans_left, ends_left, last_on, last_stop, last_end, last_left}
 use Rattle.passes.proofs.Sums.{last_metastage}
 use Rattle.passes.proofs.orders.by_order.Goals as goal
 
@@ -36,6 +36,15 @@ loop-j-init g c =
           c.lay_stages.ensures.kept p (inr (omega arith)),
       refl,
       (λ b. b + 1, (λ a. refl, stages_made g.met.W.Semiring.laws v m n (omega arith) tb stand)),
+      (
+        None,
+        (
+          refl,
+          λ p h.
+              let front : n * (v * v) ≡ m.stages * (g.T.Trellis.states * g.T.Trellis.states) = ap (λ n. n * (v * v)) is_n ∙ ap (λ v. m.stages * (v * v)) c.state_count-states.ensures in
+              c.lay_stages.ensures.kept p (inr (omega arith)),
+        ),
+      ),
     )
 
 pub replace-requires : goal.replace-requires
@@ -116,6 +125,16 @@ loop-j-preserved g c =
         (
           λ a. made.1.0 a ∙ ends_on n e order i made.0 a (omega arith) here ∙ ap (λ d. ends_made n d next (drop (i + 1) order) a) is,
           one_made laws v m n (omega arith) law e sound j p.0 p.1 p.2 c.loop-j.table c.replace.new.table c.loop-j.invariant.1 c.replace.ensures.kept c.replace.ensures.made made.0 made.1.1,
+        ),
+      ),
+      (
+        Some (begins_before e j),
+        (
+          c.loop-j.invariant.7.1.0 ∙ last_on n e order i c.loop-j.invariant.7.0 (omega arith) here ∙ ap (λ d. made_last n d (Some (begins_before e j)) (drop (i + 1) order)) is,
+          λ x y small little.
+              let there : stage_at 0 v n x y ≡ n * (v * v) + (x * v + y) = omega arith in
+              let first : stage_at 0 v (begins_before e j) x y ≡ begins_before e j * (v * v) + (x * v + y) = omega arith in
+              ap (λ p. get_or c.replace.new.table p o.none) there ∙ c.replace.ensures.spare x y small little ∙ sym (ap (λ p. get_or c.replace.new.table p o.none) first ∙ c.replace.ensures.made x y small little),
         ),
       ),
     )
@@ -231,3 +250,46 @@ returns-clause-table_front g c whole k x y h small little =
     let made = c.loop-j.invariant.6 in
     ap (λ w. get_or c.loop-j.table (stage_at 0 w k x y) o.none) (sym c.state_count-states.ensures) ∙ made.1.1 k x y (omega arith) (omega arith) (omega arith)
     ∙ ap (λ b. path_join o (across m k b x y)) (ends_left m.stages n c.stages-stages.ensures c.single_blocks.new.spans e order i start made.0 k (made.1.0 k) (ends_end n e order i made.0 k (omega arith)))
+
+pub returns-then-not-is_open-clause-table_spare : goal.returns-then-not-is_open-clause-table_spare
+returns-then-not-is_open-clause-table_spare g c whole =
+    let n = c.stages-stages.result in
+    let m = g.T.Trellis.meaning c.args.t.now in
+    let long : length c.single_blocks.new.spans ≡ n = omega (arith, length-take-le n c.args.spans.now) in
+    let single_each : (k : ℕ) → k < n → span_at c.single_blocks.new.spans k ≡ record { end = k + 1; begin = k } = λ k h. c.single_blocks.ensures k (omega (arith, length-take-le n c.args.spans.now)) in
+    let start = single_is n c.single_blocks.new.spans long single_each in
+    let size : length c.loop-j.spans ≡ n = omega (arith, length-take-le n c.args.spans.now) in
+    let e = c.loop-j.spans in
+    let order = c.args.order.now in
+    let i = c.loop-j.j-index in
+    let here : is_open n e (get_or order i 0) ≡ false = rw size at (sym c.if-not-is_open.ensures) in
+    let o = g.W.Weights.ops in
+    let old = c.args.table.now in
+    let new = c.loop-j.table in
+    let last = c.loop-j.invariant.7 in
+    let P : ℕ → ℕ → Option ℕ → Type 0 = λ w n x. Spare o w n x old new in
+    let v = c.state_count-states.result in
+    let w = g.T.Trellis.states in
+    subst (λ x. P w m.stages x) (last_left m.stages n c.stages-stages.ensures c.single_blocks.new.spans e order i start last.0 last.1.0 (last_stop n e order i last.0 (omega arith) here))
+    (subst (λ n. P w n last.0) c.stages-stages.ensures (subst (λ w. P w n last.0) c.state_count-states.ensures last.1.1))
+
+pub returns-clause-table_spare : goal.returns-clause-table_spare
+returns-clause-table_spare g c whole =
+    let n = c.stages-stages.result in
+    let m = g.T.Trellis.meaning c.args.t.now in
+    let long : length c.single_blocks.new.spans ≡ n = omega (arith, length-take-le n c.args.spans.now) in
+    let single_each : (k : ℕ) → k < n → span_at c.single_blocks.new.spans k ≡ record { end = k + 1; begin = k } = λ k h. c.single_blocks.ensures k (omega (arith, length-take-le n c.args.spans.now)) in
+    let start = single_is n c.single_blocks.new.spans long single_each in
+    let size : length c.loop-j.spans ≡ n = omega (arith, length-take-le n c.args.spans.now) in
+    let e = c.loop-j.spans in
+    let order = c.args.order.now in
+    let i = c.loop-j.j-index in
+    let o = g.W.Weights.ops in
+    let old = c.args.table.now in
+    let new = c.loop-j.table in
+    let last = c.loop-j.invariant.7 in
+    let P : ℕ → ℕ → Option ℕ → Type 0 = λ w n x. Spare o w n x old new in
+    let v = c.state_count-states.result in
+    let w = g.T.Trellis.states in
+    subst (λ x. P w m.stages x) (last_left m.stages n c.stages-stages.ensures c.single_blocks.new.spans e order i start last.0 last.1.0 (last_end n e order i last.0 (omega arith)))
+    (subst (λ n. P w n last.0) c.stages-stages.ensures (subst (λ w. P w n last.0) c.state_count-states.ensures last.1.1))
