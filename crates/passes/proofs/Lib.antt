@@ -2,6 +2,7 @@ pub mod Rows
 pub mod Turns
 pub mod Dots
 pub mod Rooms
+pub mod Halves
 pub mod Keeps
 pub mod Steps
 pub mod Fills
@@ -10,3 +11,4 @@ pub mod Blocks
 pub mod Counts
 pub mod Follows
 pub mod Stands
+pub mod Ends

@@ -5,6 +5,7 @@ use Rattle.std.specs.Prelude.{slice_range}
 use Rattle.paths.specs.declared.edges.Edge.{Edge}
 use Rattle.paths.specs.Semirings.{Operations, Semiring}
 use Rattle.paths.specs.Trellises.{Meaning, Lawful}
+use Rattle.paths.specs.Columns.{forward}
 use Rattle.paths.specs.Paths.{states_below, paths, before, across, join_over, path_join}
 use Rattle.paths.proofs.Inside.{Low, inside}
 use Rattle.paths.proofs.Overs.{cond_fine, over_fine, over_kept}
@@ -59,3 +60,10 @@ module _ {W : Type 0} {fine : W → Type 0} {o : Operations W} (laws : Semiring 
       ∙ over_kept laws u u_fine test (m.edges k)
       ∙ sym (step_forward laws w m (inside law) k s here)
       ∙ ap (λ n. path_join o (before w m n s)) (sym (add-one k))
+
+  -- the same for the forward columns
+  pub forward_by_edges : (column : List W) (k : ℕ) → k < m.stages → ((s : ℕ) → s < w → get_or column s o.none ≡ forward o w m k s)
+      → (s : ℕ) → s < w → by_edges o column (m.edges k) s ≡ forward o w m (k + 1) s
+  forward_by_edges column k here was s small =
+      let forth = (columns_are_joins laws w ceiling bits m law).forth in
+      column_by_edges column k here (λ s h. was s h ∙ forth k s (omega arith) h) s ∙ sym (forth (k + 1) s (omega arith) small)

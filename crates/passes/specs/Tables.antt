@@ -1,5 +1,5 @@
 -- The table of a pass: where columns and metastages lie, and what stands there.
-use Rattle.std.specs.Prelude.{◌≡◌, ℕ, ◌+◌, ◌*◌, ◌<◌, ◌≤◌, ◌⊎◌, List, slice_index_or}
+use Rattle.std.specs.Prelude.{◌≡◌, ℕ, ◌+◌, ◌*◌, ◌<◌, ◌≤◌, ◌⊎◌, List, slice_index_or, Option, MatchOption}
 use Rattle.paths.specs.Semirings.{Operations}
 use Rattle.paths.specs.Trellises.{Meaning}
 use Rattle.paths.specs.Columns.{parallel, join_below, forward, backward}
@@ -45,3 +45,9 @@ Backward o states m tb = (k s : ℕ) → k ≤ m.stages → s < states → slice
 -- over the states x: entry x from `from` on chained with every row-th entry from `meta` on
 abbrev pub dotted : {W : Type 0} → Operations W → ℕ → List W → ℕ → ℕ → ℕ → W
 dotted o states tb from meta row = join_below o states (λ x. o.chain (slice_index_or tb (from + x) o.none) (slice_index_or tb (meta + x * row) o.none))
+
+-- the place behind n metastages: as it was, or the same as in the place of stage a
+abbrev pub Spare : {W : Type 0} → Operations W → ℕ → ℕ → Option ℕ → List W → List W → Type 0
+Spare o states n x old new = MatchOption x
+    ((p : ℕ) → n * (states * states) ≤ p → slice_index_or new p o.none ≡ slice_index_or old p o.none)
+    (λ a. (x y : ℕ) → x < states → y < states → slice_index_or new (stage_at 0 states n x y) o.none ≡ slice_index_or new (stage_at 0 states a x y) o.none)

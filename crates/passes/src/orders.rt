@@ -1,9 +1,9 @@
 //! Any grouping of neighbouring stages: made one at the boundaries between them, in any order.
 
-ghost use Rattle.std.specs.Prelude.{◌≡◌, ℕ, ◌+◌, ◌-◌, ◌*◌, ◌<◌, ◌≤◌, length, if◌then◌else◌, Some, None, slice_index_or};
-ghost use Rattle.paths.specs.Paths.{paths, path_join};
-ghost use Rattle.passes.specs.Tables.{Outside, dotted};
-ghost use Rattle.passes.specs.Orders.{complete_order, span_at, ends_at, begins_before, is_open, made_one};
+ghost use Rattle.std.specs.Prelude.{◌≡◌, ℕ, ◌+◌, ◌-◌, ◌*◌, ◌<◌, ◌≤◌, ◌≢◌, length, if◌then◌else◌, Some, None, slice_index_or};
+ghost use Rattle.paths.specs.Paths.{paths, across, path_join};
+ghost use Rattle.passes.specs.Tables.{Outside, stage_at, Spare, dotted};
+ghost use Rattle.passes.specs.Orders.{complete_order, span_at, ends_at, begins_before, is_open, made_one, spans_after, ends_after, last_after};
 
 use super::metastages::{copy, product};
 use super::stages::lay_stages;
@@ -49,6 +49,8 @@ fn replace<W: Weights>(
     requires { (left + states * states ≤ right) × (right + states * states ≤ spare) × (spare + states * states ≤ length table.old) }
     ensures kept { (p : ℕ) → p < spare → Outside left (states * states) p → slice_index_or table.new p W.ops.none ≡ slice_index_or table.old p W.ops.none }
     ensures made { (s t : ℕ) → s < states → t < states → slice_index_or table.new (left + (s * states + t)) W.ops.none ≡ dotted W.ops states table.old (left + s * states) (right + t) states }
+    ensures spare { (s t : ℕ) → s < states → t < states → slice_index_or table.new (spare + (s * states + t)) W.ops.none ≡ dotted W.ops states table.old (left + s * states) (right + t) states }
+    ensures rest { (p : ℕ) → spare + states * states ≤ p → slice_index_or table.new p W.ops.none ≡ slice_index_or table.old p W.ops.none }
 {
     product::<W>(table, left, right, spare, states);
     copy::<W>(table, spare, left, states * states);
@@ -78,7 +80,13 @@ pub fn by_order<T: Trellis, W: Semiring>(
 ) -> Option<W::Value>
     requires table { (T.meaning t.now).stages * (T.states * T.states) + T.states * T.states ≤ length table.old }
     requires spans { (T.meaning t.now).stages ≤ length spans.old }
-    ensures { result ≡ (if complete_order (T.meaning t.now).stages order.now then Some (path_join W.Weights.ops (paths T.states (T.meaning t.now))) else None) }
+    ensures answer { result ≡ (if complete_order (T.meaning t.now).stages order.now then Some (path_join W.Weights.ops (paths T.states (T.meaning t.now))) else None) }
+    ensures short { length order.now ≢ (T.meaning t.now).stages - 1 → (table.new ≡ table.old) × (spans.new ≡ spans.old) }
+    ensures spans_front { length order.now ≡ (T.meaning t.now).stages - 1 → (k : ℕ) → k < (T.meaning t.now).stages → span_at spans.new k ≡ span_at (spans_after (T.meaning t.now).stages order.now) k }
+    ensures table_front { length order.now ≡ (T.meaning t.now).stages - 1 → (k x y : ℕ) → k < (T.meaning t.now).stages → x < T.states → y < T.states → slice_index_or table.new (stage_at 0 T.states k x y) W.Weights.ops.none ≡ path_join W.Weights.ops (across (T.meaning t.now) k (ends_after (T.meaning t.now).stages order.now k) x y) }
+    ensures table_spare { length order.now ≡ (T.meaning t.now).stages - 1 → Spare W.Weights.ops T.states (T.meaning t.now).stages (last_after (T.meaning t.now).stages order.now) table.old table.new }
+    ensures table_rest { (p : ℕ) → (T.meaning t.now).stages * (T.states * T.states) + T.states * T.states ≤ p → slice_index_or table.new p W.Weights.ops.none ≡ slice_index_or table.old p W.Weights.ops.none }
+    ensures spans_rest { (k : ℕ) → (T.meaning t.now).stages ≤ k → span_at spans.new k ≡ span_at spans.old k }
 {
     let states = T::state_count();
     let square = states * states;

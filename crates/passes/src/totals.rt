@@ -1,7 +1,8 @@
 //! The join over all paths, three ways: by the last forward column, by the last metastage, and by two columns in turn.
 
-ghost use Rattle.std.specs.Prelude.{◌≡◌, ℕ, ◌+◌, ◌*◌, ◌<◌, ◌≤◌, ◌⊎◌, length, slice_index_or, slice_set};
+ghost use Rattle.std.specs.Prelude.{◌≡◌, ℕ, ◌+◌, ◌-◌, ◌*◌, ◌%◌, ◌<◌, ◌≤◌, ◌⊎◌, length, slice_index_or, slice_set};
 ghost use Rattle.paths.specs.Paths.{paths, path_join};
+ghost use Rattle.paths.specs.Columns.{forward};
 ghost use Rattle.paths.specs.Metastages.{level_size};
 ghost use Rattle.passes.specs.Tables.{Kept, columns_size, Forward};
 ghost use Rattle.passes.specs.Levels.{Levels, levels_room};
@@ -94,15 +95,25 @@ fn carry_stage<T: Trellis, W: Weights>(
 /// The join over all paths, by two columns in turn: no table of the block, each edge asked once.
 pub fn total<T: Trellis, W: Semiring>(t: &T, columns: &mut [W::Value]) -> W::Value
     requires { T.states + T.states ≤ length columns.old }
-    ensures { result ≡ path_join W.Weights.ops (paths T.states (T.meaning t.now)) }
+    ensures joined { result ≡ path_join W.Weights.ops (paths T.states (T.meaning t.now)) }
+    ensures last { (s : ℕ) → s < T.states → slice_index_or columns.new ((T.meaning t.now).stages % 2 * T.states + s) W.Weights.ops.none ≡ forward W.Weights.ops T.states (T.meaning t.now) (T.meaning t.now).stages s }
+    ensures before { (s : ℕ) → s < T.states → slice_index_or columns.new (((T.meaning t.now).stages + 1) % 2 * T.states + s) W.Weights.ops.none ≡ forward W.Weights.ops T.states (T.meaning t.now) ((T.meaning t.now).stages - 1) s }
+    ensures rest { (p : ℕ) → T.states + T.states ≤ p → slice_index_or columns.new p W.Weights.ops.none ≡ slice_index_or columns.old p W.Weights.ops.none }
 {
     let states = T::state_count();
-    let (mut before, mut after) = columns[..states + states].split_at_mut(states);
-    border::<W, _>(before, |s| t.first(s));
+    border::<W, _>(&mut columns[..states], |s| t.first(s));
+    // Where the columns before and behind a stage begin.
+    let (mut before, mut after) = (0, states);
     // By number: the stages are asked of the trellis, and no slice holds them.
     for k in 0..t.stages() {
-        carry_stage::<T, W>(&Stage::new(t, k), before, after);
+        let stage = Stage::new(t, k);
+        let (left, right) = columns.split_at_mut(states);
+        if before < after {
+            carry_stage::<T, W>(&stage, left, &mut right[..states]);
+        } else {
+            carry_stage::<T, W>(&stage, &right[..states], left);
+        }
         mem::swap(&mut before, &mut after);
     }
-    last_states::<T, W>(t, before)
+    last_states::<T, W>(t, &columns[before..before + states])
 }
