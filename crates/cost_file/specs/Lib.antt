@@ -1,4 +1,5 @@
 pub mod Records
+pub mod Texts
 pub mod Files
 pub mod Promises
 pub mod Contents

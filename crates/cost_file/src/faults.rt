@@ -1,7 +1,8 @@
 //! What is wrong with a file.
 
-ghost use Rattle.std.specs.Prelude.{◌≡◌};
+ghost use Rattle.std.specs.Prelude.{◌≡◌, Some};
 ghost use Rattle.cost_file.specs.Records.{layer_of, fault};
+ghost use Rattle.cost_file.specs.Texts.{layer_text, fault_text};
 
 use plans::Refusal;
 use std::error::Error;
@@ -29,6 +30,8 @@ impl From<Layer> for u8 {
 
 /// A layer is written as its number.
 impl fmt::Display for Layer {
+    ghost output = { λ layer. Some (layer_text layer) };
+
     fn fmt<W: fmt::Write>(&self, f: &mut fmt::Formatter<W>) -> fmt::Result {
         write!(f, "{}", u8::from(*self))
     }
@@ -56,6 +59,8 @@ impl Fault {
 
 /// A fault is written as three numbers: its refusal, the record and the layer.
 impl fmt::Display for Fault {
+    ghost output = { λ f. Some (fault_text f) };
+
     fn fmt<W: fmt::Write>(&self, f: &mut fmt::Formatter<W>) -> fmt::Result {
         write!(f, "{} {} {}", self.refusal, self.record, self.layer)
     }

@@ -1,8 +1,9 @@
 //! A block without noise, laid out as a cost file.
 
-ghost use Rattle.std.specs.Prelude.{take, IfOk};
+ghost use Rattle.std.specs.Prelude.{take, Some, IfOk};
 ghost use Rattle.cost_file.specs.Promises.{ReadsBack};
 ghost use Rattle.encode_costs.specs.Clean.{clean_block};
+ghost use Rattle.encode_costs.specs.Texts.{trouble_text};
 
 use cost_file::write;
 use encoder::{encode, lay_clean};
@@ -27,6 +28,8 @@ pub enum Trouble {
 }
 
 impl fmt::Display for Trouble {
+    ghost output = { λ trouble. Some (trouble_text trouble) };
+
     fn fmt<W: fmt::Write>(&self, f: &mut fmt::Formatter<W>) -> fmt::Result {
         match self {
             Trouble::Refused(refusal) => write!(f, "refused {refusal}"),

@@ -1,4 +1,5 @@
 pub mod Refusals
+pub mod Texts
 pub mod Divisors
 pub mod Plans
 pub mod Permutations

@@ -1,7 +1,8 @@
 //! The refusals of every call, each with its number.
 
-ghost use Rattle.std.specs.Prelude.{◌≡◌};
+ghost use Rattle.std.specs.Prelude.{◌≡◌, Some};
 ghost use Rattle.plans.specs.Refusals.{number_of};
+ghost use Rattle.plans.specs.Texts.{refusal_text};
 
 use std::error::Error;
 use std::fmt;
@@ -40,6 +41,8 @@ impl From<Refusal> for u8 {
 
 /// A refusal is written as its number.
 impl fmt::Display for Refusal {
+    ghost output = { λ refusal. Some (refusal_text refusal) };
+
     fn fmt<W: fmt::Write>(&self, f: &mut fmt::Formatter<W>) -> fmt::Result {
         write!(f, "{}", u8::from(*self))
     }

@@ -1,5 +1,8 @@
 //! The numbers that make a plan, before anything is asked of them.
 
+ghost use Rattle.std.specs.Prelude.{Some};
+ghost use Rattle.plans.specs.Texts.{plan_text};
+
 use std::fmt;
 
 /// What a sender and a receiver agree on.
@@ -17,6 +20,8 @@ pub struct PlanValues {
 
 /// The four numbers in their order.
 impl fmt::Display for PlanValues {
+    ghost output = { λ values. Some (plan_text values) };
+
     fn fmt<W: fmt::Write>(&self, f: &mut fmt::Formatter<W>) -> fmt::Result {
         write!(f, "{} {} {} {}", self.bytes, self.bits, self.a, self.b)
     }

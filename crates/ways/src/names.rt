@@ -1,6 +1,6 @@
 //! The names of the ways.
 
-ghost use Rattle.std.specs.Prelude.{◌≡◌};
+ghost use Rattle.std.specs.Prelude.{◌≡◌, Some, codes};
 ghost use Rattle.std.specs.Result.{result_ok};
 ghost use Rattle.ways.specs.Ways.{way_number, way_of};
 
@@ -50,6 +50,8 @@ impl TryFrom<u8> for Way {
 }
 
 impl fmt::Display for UnknownWay {
+    ghost output = { λ _. Some (codes "no way has this number") };
+
     fn fmt<W: fmt::Write>(&self, f: &mut fmt::Formatter<W>) -> fmt::Result {
         f.write_str("no way has this number")
     }
