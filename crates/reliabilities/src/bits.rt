@@ -9,7 +9,7 @@ ghost use Rattle.modulo.specs.Modulo.{reliability};
 ghost use Rattle.reliabilities.specs.Bounds.{Bounded};
 
 use super::keeping::CostKeeping;
-use marginals::{ByBit, Room, marginals};
+use marginals::{ByBit, Room};
 use paths::{Stage, Trellis};
 
 // The reliability of each bit, from what its two costs leave.
@@ -42,9 +42,10 @@ pub fn stage_bits<T: Trellis, W: CostKeeping>(
     ensures bound { 1 ≤ T.reach → T.ceiling < 131072 → (b : ℕ) → b < T.bits stage.now.trellis.now → Bounded ((2 * T.reach + 1) * T.ceiling) (slice_index_or out.new b None) }
     ensures sixteen { 1 ≤ T.reach → (2 * T.reach + 1) * T.ceiling < 32768 → (b : ℕ) → b < T.bits stage.now.trellis.now → Bounded 32767 (slice_index_or out.new b None) }
     ensures rest { (b : ℕ) → T.bits stage.now.trellis.now ≤ b → slice_index_or out.new b None ≡ slice_index_or out.old b None }
+    ensures found { (b : ℕ) → b < T.bits stage.now.trellis.now → slice_index_or room.new.bits b (neither W.Weights.ops) ≡ record { zero = W.kept (path_join least (paths_with T.states (T.meaning stage.now.trellis.now) stage.now.number b 0)); one = W.kept (path_join least (paths_with T.states (T.meaning stage.now.trellis.now) stage.now.number b 1)) } }
     ensures room { Leaves W.Weights.ops T.states (T.bits stage.now.trellis.now) ((T.meaning stage.now.trellis.now).edges stage.now.number) (entry_of W.Weights.ops front.now) (entry_of W.Weights.ops back.now) room.old room.new }
 {
-    marginals::<T, W>(stage, front, back, room);
+    W::find(stage, front, back, room);
     let bits = stage.trellis.bits();
     tell::<W>(&room.bits[..bits], &mut out[..bits]);
 }

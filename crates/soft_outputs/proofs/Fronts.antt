@@ -4,9 +4,10 @@ use Rattle.std.proofs.lemmas.Nat.{div-mul-add, mod-mul-add}
 use Rattle.std.proofs.lemmas.Bool.{lt-ltb, le-ltb}
 use Rattle.std.proofs.lemmas.List.{get_or_default}
 use Rattle.paths.specs.Semirings.{Operations}
+use Rattle.marginals.specs.declared.room.ByBit.{ByBit}
 use Rattle.marginals.specs.declared.room.Room.{Room}
 use Rattle.marginals.specs.Rooms.{Leaves}
-use Rattle.marginals.specs.Words.{entry_of}
+use Rattle.marginals.specs.Words.{entry_of, neither}
 use Rattle.marginals.proofs.Lawful.{leaves_of}
 use Rattle.marginals.proofs.Frames.{part_entry}
 use Rattle.paths.specs.Trellises.{Meaning, Lawful}
@@ -94,3 +95,13 @@ least_kept way is x y h = ⊎_elim (λ e. as_is way Columns e x y h) (λ e. as_i
 
 pub least_ops : (way : Way) → (way ≡ Columns) ⊎ (way ≡ Metastages) → least ≡ ops_as way
 least_ops way is = ⊎_elim (λ e. sym (ap ops_as e)) (λ e. sym (ap ops_as e)) is
+
+-- what is found of a bit, as a way keeps it
+abbrev pub FoundAs : Way → List (ByBit ℕ) → ℕ → ℕ → ℕ → Type 0
+FoundAs way bits b x y = get_or bits b (neither (ops_as way)) ≡ record { zero = kept_as way x; one = kept_as way y }
+
+pub found_as : (way other : Way) → way ≡ other → (bits : List (ByBit ℕ)) (b x y : ℕ) → FoundAs other bits b x y → FoundAs way bits b x y
+found_as way other e bits b x y h = subst (λ w. FoundAs w bits b x y) (sym e) h
+
+pub least_found : (way : Way) → (way ≡ Columns) ⊎ (way ≡ Metastages) → (bits : List (ByBit ℕ)) (b x y : ℕ) → FoundAs Columns bits b x y → FoundAs way bits b x y
+least_found way is bits b x y h = ⊎_elim (λ e. found_as way Columns e bits b x y h) (λ e. found_as way Metastages e bits b x y h) is

@@ -11,6 +11,7 @@ ghost use Rattle.ways.specs.declared.names.Way.TheVariants.{Modular};
 ghost use Rattle.ways.specs.Ways.{ops_as, kept_as};
 ghost use Rattle.ways.specs.WorkTables.{work_entry};
 ghost use Rattle.marginals.specs.Rooms.{Leaves};
+ghost use Rattle.marginals.specs.Words.{neither};
 
 use marginals::Room;
 use modulo::ModuloCost;
@@ -33,6 +34,7 @@ pub fn stage_reliabilities<T: Trellis>(
     requires served { way ≡ Modular → IsModest T.reach T.ceiling }
     ensures told { (b : ℕ) → b < T.bits stage.now.trellis.now → slice_index_or out.new b None ≡ reliability (path_join least (paths_with T.states (T.meaning stage.now.trellis.now) stage.now.number b 0)) (path_join least (paths_with T.states (T.meaning stage.now.trellis.now) stage.now.number b 1)) }
     ensures rest { (b : ℕ) → T.bits stage.now.trellis.now ≤ b → slice_index_or out.new b None ≡ slice_index_or out.old b None }
+    ensures found { (b : ℕ) → b < T.bits stage.now.trellis.now → slice_index_or room.new.bits b (neither (ops_as way)) ≡ record { zero = kept_as way (path_join least (paths_with T.states (T.meaning stage.now.trellis.now) stage.now.number b 0)); one = kept_as way (path_join least (paths_with T.states (T.meaning stage.now.trellis.now) stage.now.number b 1)) } }
     ensures room { Leaves (ops_as way) T.states (T.bits stage.now.trellis.now) ((T.meaning stage.now.trellis.now).edges stage.now.number) (λ s. kept_as way (path_join least (before T.states (T.meaning stage.now.trellis.now) stage.now.number s))) (λ s. kept_as way (path_join least (after (T.meaning stage.now.trellis.now) (suc stage.now.number) s))) room.old room.new }
 {
     let states = T::state_count();

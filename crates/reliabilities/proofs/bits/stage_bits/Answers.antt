@@ -14,12 +14,12 @@ tell-requires-clause-can g c b low =
     let t = s.trellis.now in
     let o = g.W.Weights.ops in
     let is = c.bits-bits.ensures in
-    let e = c.marginals.ensures in
+    let e = c.find.ensures in
     let f = λ (x : ℕ) (h : x < g.T.Trellis.states). get_or_default c.args.front.now x o.none 0 (omega arith) ∙ c.requires.forth x h in
     let k = λ (x : ℕ) (h : x < g.T.Trellis.states). get_or_default c.args.back.now x o.none 0 (omega arith) ∙ c.requires.onward x h in
     let few = (g.T.Trellis.lawful t).few_bits in
-    let within : b < c.bits-bits.result = omega (arith, length-take c.bits-bits.result c.marginals.new.room.bits) in
-    let at = get_or-take c.bits-bits.result c.marginals.new.room.bits b (neither o) within in
+    let within : b < c.bits-bits.result = omega (arith, length-take c.bits-bits.result c.find.new.room.bits) in
+    let at = get_or-take c.bits-bits.result c.find.new.room.bits b (neither o) within in
     subst (λ (y : ByBit ℕ). g.W.CostKeeping.CanTell y.zero y.one) (sym at)
     (g.met.W.CostKeeping.tells _ _ _ _ (g.T.Trellis.meaning t) (g.T.Trellis.lawful t) (g.T.Trellis.reaches t) c.requires.served s.number s.inside
     (entry_of o c.args.front.now) (entry_of o c.args.back.now) f k b _ _ (e.zero b (omega arith)) (e.one b (omega arith))).0
@@ -32,14 +32,14 @@ returns g c =
     let law = g.T.Trellis.lawful t in
     let o = g.W.Weights.ops in
     let is = c.bits-bits.ensures in
-    let e = c.marginals.ensures in
+    let e = c.find.ensures in
     let f = λ (x : ℕ) (h : x < g.T.Trellis.states). get_or_default c.args.front.now x o.none 0 (omega arith) ∙ c.requires.forth x h in
     let k = λ (x : ℕ) (h : x < g.T.Trellis.states). get_or_default c.args.back.now x o.none 0 (omega arith) ∙ c.requires.onward x h in
     let n = c.bits-bits.result in
     let few = law.few_bits in
     let long : length (take n c.args.out.now) ≡ n = omega (arith, length-take n c.args.out.now) in
     let told : TrueBits g.T.Trellis.states m s.number (g.T.Trellis.bits t) (c.tell.new.out ++ drop n c.args.out.now) = λ b low.
-    let at = get_or-take n c.marginals.new.room.bits b (neither o) (omega arith) in
+    let at = get_or-take n c.find.new.room.bits b (neither o) (omega arith) in
     get_or_append_left c.tell.new.out (drop n c.args.out.now) None b (omega arith)
     ∙ c.tell.ensures b (omega arith)
     ∙ ap (λ (y : ByBit ℕ). g.W.CostKeeping.told y.zero y.one) at
@@ -51,7 +51,8 @@ returns g c =
       sixteen = λ some modest b low.
           let three : 3 * g.T.Trellis.ceiling ≤ (2 * g.T.Trellis.reach + 1) * g.T.Trellis.ceiling = mul-le-mul_right g.T.Trellis.ceiling (omega arith) in
           wider _ 32767 (omega arith) _ (told_bounded m (connected m law (g.T.Trellis.reaches t) some (omega arith)) s.number b s.inside _ (told b low));
-      room = c.marginals.ensures.room;
+      found = c.find.ensures.found;
+      room = c.find.ensures.room;
       rest = λ b past.
           let past_n : n ≤ b = omega arith in
           let front : length c.tell.new.out ≡ n = omega arith in

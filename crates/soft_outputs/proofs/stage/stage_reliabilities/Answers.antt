@@ -5,7 +5,7 @@ use Rattle.std.proofs.Common.{sym, ap}
 use Rattle.paths.specs.Least.{least}
 use Rattle.modulo.specs.Modulo.{modulo}
 use Rattle.ways.specs.Ways.{ops_as}
-use Rattle.soft_outputs.proofs.Fronts.{room_of, least_ops, columns_there, front_of, back_of, least_kept, as_is}
+use Rattle.soft_outputs.proofs.Fronts.{room_of, least_ops, columns_there, front_of, back_of, least_kept, as_is, found_as, least_found}
 use Rattle.soft_outputs.proofs.stage.stage_reliabilities.Goals as goal
 
 pub stage_bits-requires : goal.stage_bits-requires
@@ -32,6 +32,13 @@ stage_bits-requires-in-Modular g c =
       forth = λ s h. as_is c.args.way Modular c.in-Modular.is _ _ (front_of c.args.way S m c.args.table.now stage.number c.state_count-states.result c.stages.result c.state_count-states.ensures c.stages.ensures stage.inside c.requires.long c.requires.worked s h);
       onward = λ s h. as_is c.args.way Modular c.in-Modular.is _ _ (back_of c.args.way S m c.args.table.now stage.number c.state_count-states.result c.stages.result c.state_count-states.ensures c.stages.ensures stage.inside c.requires.long c.requires.worked s h);
     }
+
+pub returns-in-Columns-clause-found : goal.returns-in-Columns-clause-found
+returns-in-Columns-clause-found g c b low = least_found c.args.way c.in-Columns.is c.stage_bits.new.room.bits b _ _ (c.stage_bits.ensures.found b low)
+
+pub returns-in-Modular-clause-found : goal.returns-in-Modular-clause-found
+unfolding kept_modulo
+returns-in-Modular-clause-found g c b low = found_as c.args.way Modular c.in-Modular.is c.stage_bits-in-Modular.new.room.bits b _ _ (c.stage_bits-in-Modular.ensures.found b low)
 
 pub returns-in-Columns-clause-room : goal.returns-in-Columns-clause-room
 returns-in-Columns-clause-room g c =
