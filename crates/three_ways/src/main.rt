@@ -19,11 +19,14 @@ fn run(rt: &HostRuntime) -> anyhow::Result<()> {
     let priors = [0i16; 4];
     let t = Inner::new(2, 2, &rows, &priors);
     let mut table = vec![in rt.alloc(); 0u32; 96]?;
-    let mut passes = Vec::new(rt.alloc());
-    for way in [Way::Columns, Way::Metastages, Way::Modular] {
-        passes.push(show_pass(rt, way, &t, table.as_mut_slice())?)?;
+    let mut passes = [[None; 4]; 3];
+    for (i, way) in [Way::Columns, Way::Metastages, Way::Modular]
+        .iter()
+        .enumerate()
+    {
+        passes[i] = show_pass(rt, *way, &t, table.as_mut_slice())?;
     }
-    let same = passes.as_slice().windows(2).all(|two| two[0] == two[1]);
+    let same = passes.windows(2).all(|two| two[0] == two[1]);
     println!(rt; "reliabilities of all ways the same: {same}")?;
     show_groupings(rt)
 }

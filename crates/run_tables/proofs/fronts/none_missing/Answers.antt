@@ -1,20 +1,19 @@
-use Rattle.std.proofs.Common.{◌≡◌, ℕ, zero, suc, ◌≤◌, Bool, not, ◌&&◌, eqb, List, length, take, get_or, sym, refl, ap, ◌∙◌, add-one, arith, rules, tests}
-use Rattle.std.specs.List.{list_all}
-use Rattle.std.proofs.lemmas.Iterator.{YieldsList-from_slice}
-use Rattle.std.proofs.lemmas.Iterator.Search.{all_from_yields_List}
-use Rattle.std.proofs.lemmas.List.Folds.{list_all_more}
+use Rattle.std.proofs.Common.{◌≡◌, ◌<◌, Bool, not, ◌&&◌, eqb, take, get_or, get_or-take, length-take, sym, refl, ap, ◌∙◌, add-one, arith}
 use Rattle.run_model.specs.Model.{none_missing}
 use Rattle.run_tables.proofs.fronts.none_missing.Goals as goal
 
-of_front : (marks : List ℕ) (n : ℕ) → n ≤ length marks → list_all (λ m. not (eqb m 0)) (take n marks) ≡ none_missing n marks
-of_front marks zero h = refl
-of_front marks (suc n) h =
-    ap (λ k. list_all (λ m. not (eqb m 0)) (take k marks)) (sym (add-one n))
-    ∙ list_all_more (λ m. not (eqb m 0)) marks n 0 (omega arith)
-    ∙ ap (λ (b : Bool). b && not (eqb (get_or marks n 0) 0)) (of_front marks n (omega arith))
+pub loop-mark-preserved : goal.loop-mark-preserved
+loop-mark-preserved c =
+    let marks = c.args.marks.now in
+    let n = c.args.n in
+    let k = c.loop-mark.mark-index in
+    let h : k < n = omega (arith, length-take n marks) in
+    let same : get_or (take n marks) k 0 ≡ get_or marks k 0 = rw get_or-take refl in
+    ap (λ (b : Bool). b && not (eqb (get_or (take n marks) k 0) 0)) c.loop-mark.invariant
+    ∙ ap (λ x. none_missing k marks && not (eqb x 0)) same
+    ∙ ap (λ n. none_missing n marks) (sym (add-one k))
 
 pub returns : goal.returns
 returns c =
-    let n = c.args.n in
-    let marks = c.args.marks.now in
-    record { value = all_from_yields_List (λ m. not (eqb m 0)) _ _ c.all.result c.all.ensures.ran (YieldsList-from_slice (take n marks) cc) (λ x b q k. search (rules, tests)) ∙ of_front marks n (omega arith) }
+    let e : c.loop-mark.mark-index ≡ c.args.n = omega (arith, length-take c.args.n c.args.marks.now) in
+    record { value = c.loop-mark.invariant ∙ ap (λ n. none_missing n c.args.marks.now) e }
