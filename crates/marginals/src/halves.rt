@@ -46,6 +46,9 @@ pub(crate) fn fold<W: Weights>(
     // By number: of places lent by `iter_mut().enumerate().rev()` a proof knows nothing after, and a part of an array in a struct comes
     // back from a call under a name that no proof can cite (both tried). So the number of bits stands beside the array.
     for b in (0..bits).rev() {
-        found[b] = halve::<W>(b, words);
+        // A field at a time, so that an edit can store the zero alone at another bit.
+        let by = halve::<W>(b, words);
+        found[b].zero = by.zero;
+        found[b].one = by.one;
     }
 }

@@ -11,9 +11,9 @@ pub loop-b-preserved : goal.loop-b-preserved
 loop-b-preserved g c =
     let b = c.loop-b.b - 1 in
     let room : b < length c.loop-b.found = search rules in
-    let h = c.halve.ensures in
-    fold_more g.W.Weights.ops c.args.bits c.args.words.now b c.loop-b.b c.loop-b.words c.halve.new.words c.args.found.now c.loop-b.found c.halve.result c.loop-b.invariant
-    (omega arith) (omega arith) room h.zero h.one h.after h.rest
+    let h = c.halve-by.ensures in
+    fold_more g.W.Weights.ops c.args.bits c.args.words.now b c.loop-b.b _ _ c.loop-b.words c.halve-by.new.words c.args.found.now c.loop-b.found c.halve-by.result _ _ c.loop-b.invariant
+    (omega arith) (omega arith) room (omega arith) (omega arith) h.zero h.one h.after h.rest
 
 pub returns : goal.returns
 returns g c =
