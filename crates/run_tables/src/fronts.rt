@@ -32,7 +32,7 @@ pub fn none_missing(marks: &[u8], n: usize) -> bool
     ensures value { result ≡ none_missing n marks.now }
 {
     let mut all = true;
-    // Each is looked at, many at once: `all` of the iterator leaves off at the first that is 0, but looks at one at a time, and takes ten
+    // Each is looked at, many at once: `all` of the iterator leaves off at the first that is 0, but looks at one at a time, and takes twelve
     // times as long where none is.
     for mark in &marks[..n] {
         all &= *mark != 0;
